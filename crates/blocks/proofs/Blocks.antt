@@ -1,0 +1,34 @@
+-- Laws of block numbers.
+--     isBlock-block, block-isBlock, no-block      the test isBlock and the fact Block
+-- Assumes nothing.
+use Prim.Native.Nat.{ℕ, _+_, _<_, _≤_}
+use mathlib.Core.Path.{_≡_, refl}
+use mathlib.Core.Bool.{true, false}
+use native.Mathlib.Omega.{arith}
+use lib.Dec.{leb}
+use borrow.Author.Tests.{leb-true, leb-false, le-leb, lt-leb}
+use Rattle.blocks.specs.Block.{isBlock}
+use Rattle.blocks.specs.WellFormed.{Block}
+use Rattle.blocks.proofs.Tests.{both-true, both}
+
+pub isBlock-block : (m b : ℕ) → isBlock m b ≡ true → Block m b
+unfolding isBlock
+isBlock-block m b e =
+    let (l, g) = both-true (leb 2 b) (leb b (m + 1)) e in
+    record { low = leb-true 2 b l; high = leb-true b (m + 1) g }
+
+pub block-isBlock : (m b : ℕ) → Block m b → isBlock m b ≡ true
+unfolding isBlock
+block-isBlock m b l = both (le-leb 2 b (l .low)) (le-leb b (m + 1) (l .high))
+
+pub below-isBlock : (m b : ℕ) → b < 2 → isBlock m b ≡ false
+unfolding isBlock
+below-isBlock m b l = simp (lt-leb 2 b l)
+
+pub above-isBlock : (m b : ℕ) → 2 ≤ b → m + 1 < b → isBlock m b ≡ false
+unfolding isBlock
+above-isBlock m b g l = simp (le-leb 2 b g, lt-leb b (m + 1) l)
+
+-- a block number of m blocks has its place in a buffer of m entries
+pub block-within : {m n b : ℕ} → n ≡ m → isBlock m b ≡ true → Block n b
+block-within {m} {n} {b} e i = let l = isBlock-block m b i in record { low = l .low; high = omega arith }

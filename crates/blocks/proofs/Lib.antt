@@ -1,0 +1,8 @@
+-- What is proved of the machine's definitions alone.
+pub mod Tests
+pub mod Blocks
+pub mod Lists
+pub mod Entering
+pub mod Colours
+pub mod Bytes
+pub mod Cases

@@ -1,0 +1,21 @@
+-- The machine of document 01, one notion a file. Read in this order.
+pub mod Tests
+pub mod Registers
+pub mod Block
+pub mod Colouring
+pub mod Heap
+pub mod Standing
+pub mod Entry
+pub mod Answers
+pub mod OneUnit
+pub mod Units
+pub mod Format
+pub mod Read
+pub mod Store
+pub mod Allocate
+pub mod Work
+pub mod WellFormed
+pub mod Audit
+pub mod Session
+pub mod Cases
+pub mod Ready

@@ -1,0 +1,45 @@
+-- `colours::grey_white` meets its contract: a law of the layout for each way out. Assumes nothing.
+use mathlib.Core.Path.{_∙_, sym, ap}
+use Rattle.blocks.proofs.Blocks.{block-within}
+use Rattle.blocks.proofs.Tests.{so}
+use Rattle.blocks.proofs.Colours.{not-a-block, not-white, was-white, allocated-no, allocated-as}
+use borrow.Author.Needs.{needs}
+use Rattle.colours.proofs.grey_white.Statement.{statement}
+use Rattle.colours.proofs.grey_white.Tie as tie
+
+is-block-requires : tie.Need-is-block-requires
+is-block-requires c κs = search needs
+
+word-of-requires : tie.Need-word-of-requires
+word-of-requires c κs = block-within (c .before .before .before .before .pre .1) (so (c .before .before .is-block .ensures) (c .before .if1 .taken))
+
+paint-requires : tie.Need-paint-requires
+paint-requires c κs = block-within (c .before .before .before .before .before .before .before .pre .1) (so (c .before .before .before .before .before .is-block .ensures) (c .before .before .before .before .if1 .taken))
+
+same-length : tie.Need-same-length
+same-length c = search needs
+
+returns : tie.Need-returns
+returns c = rw (c .before .before .paint .ensures) (was-white _ _ _ (so (c .before .before .before .before .before .before .before .before .is-block .ensures) (c .before .before .before .before .before .before .before .if1 .taken)) (so (c .before .before .before .before .before .word-of .ensures) (c .before .before .before .before .if2 .taken)))
+
+same-length-2 : tie.Need-same-length-2
+same-length-2 c = search needs
+
+returns-2 : tie.Need-returns-2
+returns-2 c = not-white _ _ _ (λ z. c .if2 .left (c .before .word-of .ensures ∙ z))
+
+returns-3 : tie.Need-returns-3
+returns-3 c = not-a-block _ _ _ (so (c .before .is-block .ensures) (c .if1 .left))
+
+pub grey-white-spec : {M : Type 1} → statement M
+grey-white-spec =
+    tie.close
+    (tie.spec
+    is-block-requires
+    word-of-requires
+    paint-requires
+    same-length
+    returns
+    same-length-2
+    returns-2
+    returns-3)

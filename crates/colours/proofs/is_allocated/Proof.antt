@@ -1,0 +1,37 @@
+-- `colours::is_allocated` meets its contract. Assumes nothing.
+use mathlib.Core.Path.{_∙_, sym, ap}
+use Rattle.blocks.proofs.Blocks.{block-within}
+use Rattle.blocks.proofs.Tests.{so}
+use Rattle.blocks.proofs.Colours.{not-a-block, not-white, was-white, allocated-no, allocated-as}
+use borrow.Author.Needs.{needs}
+use Rattle.colours.proofs.is_allocated.Statement.{statement}
+use Rattle.colours.proofs.is_allocated.Tie as tie
+
+is-block-requires : tie.Need-is-block-requires
+is-block-requires c κs = search needs
+
+word-of-requires : tie.Need-word-of-requires
+word-of-requires c κs = block-within (c .before .before .before .pre .1) (so (c .before .is-block .ensures) (c .if1 .taken))
+
+colour-requires : tie.Need-colour-requires
+colour-requires c κs = search needs
+
+allocated-colour-requires : tie.Need-allocated-colour-requires
+allocated-colour-requires c κs = search needs
+
+returns : tie.Need-returns
+returns c = allocated-as _ _ _ _ _ _ (so (c .before .before .before .before .is-block .ensures) (c .before .before .before .if1 .taken)) (c .before .before .word-of .ensures) (c .before .colour .ensures) (c .allocated-colour .ensures)
+
+returns-2 : tie.Need-returns-2
+returns-2 c = allocated-no _ _ _ (so (c .before .is-block .ensures) (c .if1 .left))
+
+pub is-allocated-spec : {M : Type 1} → statement M
+is-allocated-spec =
+    tie.close
+    (tie.spec
+    is-block-requires
+    word-of-requires
+    colour-requires
+    allocated-colour-requires
+    returns
+    returns-2)

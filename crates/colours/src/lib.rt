@@ -1,0 +1,112 @@
+// The colour buffer: what a colour word means, and the grey list. Only this crate reads or writes a colour word.
+use blocks::Colour;
+ghost use mathlib.Core.Path.{_≡_};
+ghost use Prim.Native.Nat.{_≤_};
+ghost use lib.ListN.{length, replicate};
+ghost use Rattle.blocks.specs.WellFormed.{Block};
+ghost use Rattle.blocks.specs.Block.{isBlock};
+ghost use Rattle.blocks.specs.Colouring.{Colouring, colour, colourWord, paint, greyWhite, allocatedColour, isAllocated, freshColours};
+ghost use Rattle.blocks.specs.Tests.{if_then_else_};
+
+// Whether b is a block number in a heap of m blocks.
+pub fn is_block(m: u32, b: u32) -> bool
+    requires { ⌜ m ≤ 16384 ⌝ }
+    ensures { λ r. ⌜ r ≡ isBlock m b ⌝ }
+{
+    2 <= b && b <= m + 1
+}
+
+// What a colour word means in a heap of m blocks.
+pub fn colour(m: u32, word: u32) -> Colour
+    requires { ⌜ m ≤ 16384 ⌝ }
+    ensures { λ r. ⌜ r ≡ colour m word ⌝ }
+{
+    match word {
+        0 => Colour::White,
+        4294967295 => Colour::Black,
+        4294967294 => Colour::Free,
+        _ => {
+            if word <= m + 1 {
+                Colour::Grey
+            } else {
+                Colour::Outside
+            }
+        }
+    }
+}
+
+// The colour word of the block b.
+pub fn word_of(colours: &[u32], b: u32) -> u32
+    requires { ⌜ Block (length (now colours)) b ⌝ }
+    ensures { λ r. ⌜ r ≡ colourWord (now (colours .entry)) b ⌝ }
+{
+    colours[b as usize - 2]
+}
+
+// The block b gets the colour word.
+pub fn paint(colours: &mut [u32], b: u32, word: u32)
+    requires { ⌜ Block (length (now colours)) b ⌝ }
+    ensures { λ _. ⌜ now (colours .exit) ≡ paint b word (now (colours .entry)) ⌝ }
+{
+    colours[b as usize - 2] = word;
+}
+
+// The colour word of b, or white where b is no block.
+pub fn word_met(m: u32, colours: &[u32], b: u32) -> u32
+    requires { ⌜ (m ≤ 16384) × (length (now colours) ≡ m) ⌝ }
+    ensures { λ r. ⌜ r ≡ (if isBlock m b then colourWord (now (colours .entry)) b else 0) ⌝ }
+{
+    if is_block(m, b) {
+        return word_of(colours, b);
+    }
+    0
+}
+
+// Whether a block of the colour is allocated.
+pub fn allocated_colour(c: Colour) -> bool
+    ensures { λ r. ⌜ r ≡ allocatedColour c ⌝ }
+{
+    match c {
+        Colour::White => true,
+        Colour::Grey => true,
+        Colour::Black => true,
+        Colour::Free => false,
+        Colour::Outside => false,
+    }
+}
+
+// Whether b is a block whose colour is legal and not free.
+pub fn is_allocated(m: u32, colours: &[u32], b: u32) -> bool
+    requires { ⌜ (m ≤ 16384) × (length (now colours) ≡ m) ⌝ }
+    ensures { λ r. ⌜ r ≡ isAllocated m (now (colours .entry)) b ⌝ }
+{
+    if is_block(m, b) {
+        return allocated_colour(colour(m, word_of(colours, b)));
+    }
+    false
+}
+
+// b, if it is a white block, goes to the front of the grey list that starts at head. Answers the head afterwards.
+pub fn grey_white(m: u32, head: u32, colours: &mut [u32], b: u32) -> u32
+    requires { ⌜ (m ≤ 16384) × (length (now colours) ≡ m) ⌝ }
+    ensures { λ r. ⌜ (record { head = r; cells = now (colours .exit) }) ≡ greyWhite m b (record { head = head; cells = now (colours .entry) }) ⌝ }
+{
+    if is_block(m, b) {
+        if word_of(&colours[..], b) == 0 {
+            paint(colours, b, head);
+            return b;
+        }
+    }
+    head
+}
+
+// Every block free: what Format makes of the colour buffer.
+pub fn fresh(colours: &mut [u32])
+    ensures { λ _. ⌜ now (colours .exit) ≡ freshColours (length (now (colours .entry))) ⌝ }
+{
+    let mut i = 0;
+    while i < colours.len() {
+        colours[i] = 4294967294;
+        i += 1;
+    }
+}
