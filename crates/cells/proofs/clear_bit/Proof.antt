@@ -22,7 +22,9 @@ shl-bytes : tie.Need-shl-bytes
 shl-bytes c = search needs
 
 sub-bytes : tie.Need-sub-bytes
-sub-bytes c = clear-fits _ _ (c .before .before .before .before .pre .1) (so (c .before .bit .ensures) (c .if1 .taken))
+sub-bytes c =
+    let c-pre = c .before .before .before .before .pre in
+    clear-fits _ _ (c-pre .1) (so (c .before .bit .ensures) (c .if1 .taken))
 
 slice-write-bytes : tie.Need-slice-write-bytes
 slice-write-bytes c = search needs
@@ -31,10 +33,15 @@ same-length : tie.Need-same-length
 same-length c = search needs
 
 returns : tie.Need-returns
-returns c = bit-cleared (c .before .before .before .before .args .bytes .now) (c .before .before .before .before .args .b) _ (c .before .before .before .before .pre .1) (so (c .before .bit .ensures) (c .if1 .taken))
+returns c =
+    let c-args = c .before .before .before .before .args in
+    let c-pre = c .before .before .before .before .pre in
+    bit-cleared (c-args .bytes .now) (c-args .b) _ (c-pre .1) (so (c .before .bit .ensures) (c .if1 .taken))
 
 returns-2 : tie.Need-returns-2
-returns-2 c = bit-was-clear _ _ _ (c .before .before .before .before .pre .1) (so (c .before .bit .ensures) (c .if1 .left))
+returns-2 c =
+    let c-pre = c .before .before .before .before .pre in
+    bit-was-clear _ _ _ (c-pre .1) (so (c .before .bit .ensures) (c .if1 .left))
 
 pub clear-bit-spec : {M : Type 1} → statement M
 clear-bit-spec =

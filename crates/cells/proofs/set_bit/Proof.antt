@@ -16,7 +16,9 @@ bit-requires : tie.Need-bit-requires
 bit-requires c κs = search needs
 
 returns : tie.Need-returns
-returns c = bit-was-set _ _ _ (c .before .before .before .before .pre .1) (so (c .before .bit .ensures) (c .if1 .taken))
+returns c =
+    let c-pre = c .before .before .before .before .pre in
+    bit-was-set _ _ _ (c-pre .1) (so (c .before .bit .ensures) (c .if1 .taken))
 
 cast-bytes : tie.Need-cast-bytes
 cast-bytes c = search needs
@@ -25,7 +27,11 @@ shl-bytes : tie.Need-shl-bytes
 shl-bytes c = search needs
 
 add-bytes : tie.Need-add-bytes
-add-bytes c = record { fits = set-fits _ _ (c .before .before .slice-known2 .given (c .before .before .before .before .args .b - 2) .fits) (c .before .before .before .before .pre .1) (so (c .before .bit .ensures) (c .if1 .left)) }
+add-bytes c =
+    let c-slice-known2 = c .before .before .slice-known2 in
+    let c-args = c .before .before .before .before .args in
+    let c-pre = c .before .before .before .before .pre in
+    record { fits = set-fits _ _ (c-slice-known2 .given (c-args .b - 2) .fits) (c-pre .1) (so (c .before .bit .ensures) (c .if1 .left)) }
 
 slice-write-bytes : tie.Need-slice-write-bytes
 slice-write-bytes c = search needs
@@ -34,7 +40,10 @@ same-length : tie.Need-same-length
 same-length c = search needs
 
 returns-2 : tie.Need-returns-2
-returns-2 c = bit-set (c .before .before .before .before .args .bytes .now) (c .before .before .before .before .args .b) _ (c .before .before .before .before .pre .1) (so (c .before .bit .ensures) (c .if1 .left))
+returns-2 c =
+    let c-args = c .before .before .before .before .args in
+    let c-pre = c .before .before .before .before .pre in
+    bit-set (c-args .bytes .now) (c-args .b) _ (c-pre .1) (so (c .before .bit .ensures) (c .if1 .left))
 
 pub set-bit-spec : {M : Type 1} → statement M
 set-bit-spec =

@@ -11,16 +11,29 @@ is-block-requires : tie.Need-is-block-requires
 is-block-requires c κs = search needs
 
 word-of-requires : tie.Need-word-of-requires
-word-of-requires c κs = block-within (c .before .before .before .before .pre .1) (so (c .before .before .is-block .ensures) (c .before .if1 .taken))
+word-of-requires c κs =
+    let c-pre = c .before .before .before .before .pre in
+    let c-is-block = c .before .before .is-block in
+    block-within (c-pre .1) (so (c-is-block .ensures) (c .before .if1 .taken))
 
 paint-requires : tie.Need-paint-requires
-paint-requires c κs = block-within (c .before .before .before .before .before .before .before .pre .1) (so (c .before .before .before .before .before .is-block .ensures) (c .before .before .before .before .if1 .taken))
+paint-requires c κs =
+    let c-pre = c .before .before .before .before .before .before .before .pre in
+    let c-is-block = c .before .before .before .before .before .is-block in
+    let c-if1 = c .before .before .before .before .if1 in
+    block-within (c-pre .1) (so (c-is-block .ensures) (c-if1 .taken))
 
 same-length : tie.Need-same-length
 same-length c = search needs
 
 returns : tie.Need-returns
-returns c = rw (c .before .before .paint .ensures) (was-white _ _ _ (so (c .before .before .before .before .before .before .before .before .is-block .ensures) (c .before .before .before .before .before .before .before .if1 .taken)) (so (c .before .before .before .before .before .word-of .ensures) (c .before .before .before .before .if2 .taken)))
+returns c =
+    let c-paint = c .before .before .paint in
+    let c-is-block = c .before .before .before .before .before .before .before .before .is-block in
+    let c-if1 = c .before .before .before .before .before .before .before .if1 in
+    let c-word-of = c .before .before .before .before .before .word-of in
+    let c-if2 = c .before .before .before .before .if2 in
+    rw (c-paint .ensures) (was-white _ _ _ (so (c-is-block .ensures) (c-if1 .taken)) (so (c-word-of .ensures) (c-if2 .taken)))
 
 same-length-2 : tie.Need-same-length-2
 same-length-2 c = search needs

@@ -11,7 +11,9 @@ is-block-requires : tie.Need-is-block-requires
 is-block-requires c κs = search needs
 
 word-of-requires : tie.Need-word-of-requires
-word-of-requires c κs = block-within (c .before .before .before .pre .1) (so (c .before .is-block .ensures) (c .if1 .taken))
+word-of-requires c κs =
+    let c-pre = c .before .before .before .pre in
+    block-within (c-pre .1) (so (c .before .is-block .ensures) (c .if1 .taken))
 
 colour-requires : tie.Need-colour-requires
 colour-requires c κs = search needs
@@ -20,7 +22,11 @@ allocated-colour-requires : tie.Need-allocated-colour-requires
 allocated-colour-requires c κs = search needs
 
 returns : tie.Need-returns
-returns c = allocated-as _ _ _ _ _ _ (so (c .before .before .before .before .is-block .ensures) (c .before .before .before .if1 .taken)) (c .before .before .word-of .ensures) (c .before .colour .ensures) (c .allocated-colour .ensures)
+returns c =
+    let c-is-block = c .before .before .before .before .is-block in
+    let c-if1 = c .before .before .before .if1 in
+    let c-word-of = c .before .before .word-of in
+    allocated-as _ _ _ _ _ _ (so (c-is-block .ensures) (c-if1 .taken)) (c-word-of .ensures) (c .before .colour .ensures) (c .allocated-colour .ensures)
 
 returns-2 : tie.Need-returns-2
 returns-2 c = allocated-no _ _ _ (so (c .before .is-block .ensures) (c .if1 .left))

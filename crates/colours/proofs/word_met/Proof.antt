@@ -12,10 +12,14 @@ is-block-requires : tie.Need-is-block-requires
 is-block-requires c κs = search needs
 
 word-of-requires : tie.Need-word-of-requires
-word-of-requires c κs = block-within (c .before .before .before .pre .1) (so (c .before .is-block .ensures) (c .if1 .taken))
+word-of-requires c κs =
+    let c-pre = c .before .before .before .pre in
+    block-within (c-pre .1) (so (c .before .is-block .ensures) (c .if1 .taken))
 
 returns : tie.Need-returns
-returns c = c .word-of .ensures ∙ sym (if-true _ _ (so (c .before .before .is-block .ensures) (c .before .if1 .taken)))
+returns c =
+    let c-is-block = c .before .before .is-block in
+    c .word-of .ensures ∙ sym (if-true _ _ (so (c-is-block .ensures) (c .before .if1 .taken)))
 
 returns-2 : tie.Need-returns-2
 returns-2 c = sym (if-false _ _ (so (c .before .is-block .ensures) (c .if1 .left)))
