@@ -1,5 +1,6 @@
 -- Laws of block numbers.
---     isBlock-block, block-isBlock, no-block      the test isBlock and the fact Block
+--     isBlock-block, block-isBlock, below-isBlock, above-isBlock     the test isBlock and the fact Block
+--     block-within, block-as   a block number has its place in a buffer of as many entries
 -- Assumes nothing.
 use Prim.Native.Nat.{ℕ, _+_, _<_, _≤_}
 use mathlib.Core.Path.{_≡_, refl}
@@ -32,3 +33,6 @@ above-isBlock m b g l = simp (le-leb 2 b g, lt-leb b (m + 1) l)
 -- a block number of m blocks has its place in a buffer of m entries
 pub block-within : {m n b : ℕ} → n ≡ m → isBlock m b ≡ true → Block n b
 block-within {m} {n} {b} e i = let l = isBlock-block m b i in record { low = l .low; high = omega arith }
+
+pub block-as : {m n b : ℕ} → n ≡ m → Block m b → Block n b
+block-as e l = record { low = l .low; high = omega arith }

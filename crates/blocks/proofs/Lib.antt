@@ -5,4 +5,10 @@ pub mod Lists
 pub mod Entering
 pub mod Colours
 pub mod Bytes
+pub mod Steps
+pub mod Parts
+pub mod Marking
+pub mod Sweeping
+pub mod Running
+pub mod Kept
 pub mod Cases

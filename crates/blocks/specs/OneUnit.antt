@@ -81,9 +81,12 @@ marked h =
     withColouring (greyAll (h .regs .blocks) (referencesOf h (h .regs .grey)) (toBlack (colouring h))) h
 
 -- 8: "a reference in a marked block that isn't 0 or an allocated block"
+abbrev pub sound : ℕ → List ℕ → ℕ → Bool
+sound m cs b = eqb b 0 || isAllocated m cs b
+
 unfoldable pub allSound : ℕ → List ℕ → List ℕ → Bool
 allSound m cs [] = true
-allSound m cs (b ∷ bs) = (eqb b 0 || isAllocated m cs b) && allSound m cs bs
+allSound m cs (b ∷ bs) = sound m cs b && allSound m cs bs
 
 -- "Marking, grey list empty: phase 2, position 2."
 unfoldable pub turned : Heap → Heap

@@ -5,8 +5,15 @@ ghost use Prim.Native.Nat.{_≤_};
 ghost use lib.ListN.{length, replicate};
 ghost use Rattle.blocks.specs.WellFormed.{Block};
 ghost use Rattle.blocks.specs.Block.{isBlock};
-ghost use Rattle.blocks.specs.Colouring.{Colouring, colour, colourWord, paint, greyWhite, allocatedColour, isAllocated, freshColours};
+ghost use Rattle.blocks.specs.Colouring.{Colouring, colour, colourWord, paint, toGrey, toBlack, greyWhite, allocatedColour, isAllocated, freshColours};
 ghost use Rattle.blocks.specs.Tests.{if_then_else_};
+
+// The colour words that are no link.
+pub const WHITE: u32 = 0;
+
+pub const BLACK: u32 = 4_294_967_295;
+
+pub const FREE: u32 = 4_294_967_294;
 
 // Whether b is a block number in a heap of m blocks.
 pub fn is_block(m: u32, b: u32) -> bool
@@ -86,6 +93,25 @@ pub fn is_allocated(m: u32, colours: &[u32], b: u32) -> bool
     false
 }
 
+// The block b goes to the front of the grey list that starts at head. Answers the head afterwards.
+pub fn to_grey(head: u32, colours: &mut [u32], b: u32) -> u32
+    requires { ⌜ Block (length (now colours)) b ⌝ }
+    ensures { λ r. ⌜ (record { head = r; cells = now (colours .exit) }) ≡ toGrey b (record { head = head; cells = now (colours .entry) }) ⌝ }
+{
+    paint(colours, b, head);
+    b
+}
+
+// The first block of the grey list, head, is taken off and made black. Answers the head afterwards.
+pub fn to_black(head: u32, colours: &mut [u32]) -> u32
+    requires { ⌜ Block (length (now colours)) head ⌝ }
+    ensures { λ r. ⌜ (record { head = r; cells = now (colours .exit) }) ≡ toBlack (record { head = head; cells = now (colours .entry) }) ⌝ }
+{
+    let next = word_of(&colours[..], head);
+    paint(colours, head, BLACK);
+    next
+}
+
 // b, if it is a white block, goes to the front of the grey list that starts at head. Answers the head afterwards.
 pub fn grey_white(m: u32, head: u32, colours: &mut [u32], b: u32) -> u32
     requires { ⌜ (m ≤ 16384) × (length (now colours) ≡ m) ⌝ }
@@ -93,8 +119,7 @@ pub fn grey_white(m: u32, head: u32, colours: &mut [u32], b: u32) -> u32
 {
     if is_block(m, b) {
         if word_of(&colours[..], b) == 0 {
-            paint(colours, b, head);
-            return b;
+            return to_grey(head, colours, b);
         }
     }
     head
@@ -106,7 +131,7 @@ pub fn fresh(colours: &mut [u32])
 {
     let mut i = 0;
     while i < colours.len() {
-        colours[i] = 4294967294;
+        colours[i] = FREE;
         i += 1;
     }
 }

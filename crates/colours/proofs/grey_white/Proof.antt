@@ -1,8 +1,8 @@
 -- `colours::grey_white` meets its contract: a law of the layout for each way out. Assumes nothing.
-use mathlib.Core.Path.{_∙_, sym, ap}
-use Rattle.blocks.proofs.Blocks.{block-within}
+use mathlib.Core.Path.{_∙_}
 use Rattle.blocks.proofs.Tests.{so}
-use Rattle.blocks.proofs.Colours.{not-a-block, not-white, was-white, allocated-no, allocated-as}
+use Rattle.blocks.proofs.Blocks.{block-within}
+use Rattle.blocks.proofs.Colours.{not-a-block, not-white, was-white}
 use borrow.Author.Needs.{needs}
 use Rattle.colours.proofs.grey_white.Statement.{statement}
 use Rattle.colours.proofs.grey_white.Tie as tie
@@ -16,8 +16,8 @@ word-of-requires c κs =
     let c-is-block = c .before .before .is-block in
     block-within (c-pre .1) (so (c-is-block .ensures) (c .before .if1 .taken))
 
-paint-requires : tie.Need-paint-requires
-paint-requires c κs =
+to-grey-requires : tie.Need-to-grey-requires
+to-grey-requires c κs =
     let c-pre = c .before .before .before .before .before .before .before .pre in
     let c-is-block = c .before .before .before .before .before .is-block in
     let c-if1 = c .before .before .before .before .if1 in
@@ -28,12 +28,12 @@ same-length c = search needs
 
 returns : tie.Need-returns
 returns c =
-    let c-paint = c .before .before .paint in
+    let c-to-grey = c .before .before .to-grey in
     let c-is-block = c .before .before .before .before .before .before .before .before .is-block in
     let c-if1 = c .before .before .before .before .before .before .before .if1 in
     let c-word-of = c .before .before .before .before .before .word-of in
     let c-if2 = c .before .before .before .before .if2 in
-    rw (c-paint .ensures) (was-white _ _ _ (so (c-is-block .ensures) (c-if1 .taken)) (so (c-word-of .ensures) (c-if2 .taken)))
+    c-to-grey .ensures ∙ was-white _ _ _ (so (c-is-block .ensures) (c-if1 .taken)) (so (c-word-of .ensures) (c-if2 .taken))
 
 same-length-2 : tie.Need-same-length-2
 same-length-2 c = search needs
@@ -50,7 +50,7 @@ grey-white-spec =
     (tie.spec
     is-block-requires
     word-of-requires
-    paint-requires
+    to-grey-requires
     same-length
     returns
     same-length-2
