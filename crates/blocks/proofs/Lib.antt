@@ -3,6 +3,8 @@ pub mod Tests
 pub mod Blocks
 pub mod Lists
 pub mod Entering
+pub mod Refusals
+pub mod Reading
 pub mod Colours
 pub mod Bytes
 pub mod Steps

@@ -3,8 +3,9 @@
 --     read b w h           Read
 --     look b h             Look: the words of the part that it answers
 --     lookAt b h           where in the word buffer that part begins
+--     moved p w            the pointer that is w words further on than p
 -- Assumes nothing.
-use Prim.Native.Nat.{ℕ}
+use Prim.Native.Nat.{ℕ, _+_, _*_}
 use mathlib.Core.List.{List, []}
 use lib.Dec.{eqb}
 use Rattle.blocks.specs.declared.ReadAnswer.{ReadAnswer}
@@ -45,3 +46,7 @@ look b h = if eqb (readRefusal b 0 h) 0 then eightWords (h .words) b else []
 
 unfoldable pub lookAt : ℕ → Heap → ℕ
 lookAt b h = if eqb (readRefusal b 0 h) 0 then base b else 0
+
+-- A pointer is an allocation and a byte offset into it; a word has four bytes.
+abbrev pub moved : ℕ × ℕ → ℕ → ℕ × ℕ
+moved p w = (p .0, w * 4 + p .1)

@@ -1,0 +1,17 @@
+-- `checks::holder_refusal` meets its contract. Assumes nothing.
+use Rattle.blocks.proofs.Refusals.{holder-as}
+use borrow.Author.Needs.{needs}
+use Rattle.checks.proofs.holder_refusal.Statement.{statement}
+use Rattle.checks.proofs.holder_refusal.Tie as tie
+
+standing-of-requires : tie.Need-standing-of-requires
+standing-of-requires c κs = search needs
+
+refusal-of-requires : tie.Need-refusal-of-requires
+refusal-of-requires c κs = search needs
+
+returns : tie.Need-returns
+returns c = λ ws bs. holder-as _ _ _ _ (c .before .standing-of .ensures ws bs) (c .refusal-of .ensures)
+
+pub holder-refusal-spec : {M : Type 1} → statement M
+holder-refusal-spec = tie.close (tie.spec standing-of-requires refusal-of-requires returns)

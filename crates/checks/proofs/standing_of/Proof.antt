@@ -1,0 +1,22 @@
+-- `checks::standing_of` meets its contract. Assumes nothing.
+use Rattle.blocks.proofs.Refusals.{standing-as}
+use borrow.Author.Needs.{needs}
+use Rattle.checks.proofs.standing_of.Statement.{statement}
+use Rattle.checks.proofs.standing_of.Tie as tie
+
+word-of-requires : tie.Need-word-of-requires
+word-of-requires c κs = search needs
+
+colour-requires : tie.Need-colour-requires
+colour-requires c κs = search needs
+
+standing-requires : tie.Need-standing-requires
+standing-requires c κs = search needs
+
+returns : tie.Need-returns
+returns c =
+    let c-word-of = c .before .before .word-of in
+    λ ws bs. standing-as _ _ _ _ _ (c-word-of .ensures) (c .before .colour .ensures) (c .standing .ensures)
+
+pub standing-of-spec : {M : Type 1} → statement M
+standing-of-spec = tie.close (tie.spec word-of-requires colour-requires standing-requires returns)

@@ -1,0 +1,242 @@
+// The tests before a call does anything: refusals 1 to 4 by numbers alone, then 8, 5 and 6 by a block's colour.
+// Each answers the refusal number, or 0. Then the two ways in which a call that does no units gives back its answer.
+use blocks::Answer;
+use blocks::Colour;
+use blocks::Outcome;
+use blocks::Regs;
+use blocks::Standing;
+ghost use mathlib.Core.Path.{_≡_};
+ghost use mathlib.Core.Bool.{true};
+ghost use mathlib.Core.List.{List};
+ghost use Prim.Native.Nat.{ℕ, _≤_};
+ghost use lib.ListN.{length};
+ghost use Rattle.blocks.specs.WellFormed.{Block};
+ghost use Rattle.blocks.specs.Heap.{heap};
+ghost use Rattle.blocks.specs.Colouring.{headLegal};
+ghost use Rattle.blocks.specs.Standing.{doomedWhite, standing, standingOf, refusalOf, holderRefusal, targetRefusal};
+ghost use Rattle.blocks.specs.Entry.{numbersFit, lengthsFit, fits, isBlockOrNone, positionLegal, legal, entry, wordRefusal, holderPlace, targetPlace};
+ghost use Rattle.blocks.specs.Read.{readRefusal};
+ghost use Rattle.blocks.specs.Answers.{given, refuse, done};
+
+// Whether M and the pace fit.
+pub fn numbers_fit(m: u32, u: u32) -> bool
+    ensures { λ r. ⌜ r ≡ numbersFit m u ⌝ }
+{
+    1 <= m && (m <= 16384 && u <= 65535)
+}
+
+// Whether the buffers have the lengths that m blocks ask for.
+pub fn lengths_fit(m: u32, words: usize, colours: usize, bytes: usize) -> bool
+    ensures { λ r. ⌜ r ≡ lengthsFit m words colours bytes ⌝ }
+{
+    let n = m as usize;
+    words == 8 * n && (colours == n && bytes == n)
+}
+
+// Whether M, the pace and the buffers' lengths fit.
+pub fn fits(m: u32, u: u32, words: usize, colours: usize, bytes: usize) -> bool
+    ensures { λ r. ⌜ r ≡ fits m u words colours bytes ⌝ }
+{
+    numbers_fit(m, u) && lengths_fit(m, words, colours, bytes)
+}
+
+// Whether b is 0 or a block.
+pub fn is_block_or_none(m: u32, b: u32) -> bool
+    requires { ⌜ m ≤ 16384 ⌝ }
+    ensures { λ r. ⌜ r ≡ isBlockOrNone m b ⌝ }
+{
+    b == 0 || colours::is_block(m, b)
+}
+
+// Whether g is a legal grey head in the phase.
+pub fn head_legal(m: u32, phase: u32, g: u32) -> bool
+    requires { ⌜ m ≤ 16384 ⌝ }
+    ensures { λ r. ⌜ r ≡ headLegal m phase g ⌝ }
+{
+    g == 1 || phase == 1 && colours::is_block(m, g)
+}
+
+// Whether the sweep's position is legal.
+pub fn position_legal(r: Regs) -> bool
+    requires { ⌜ r .blocks ≤ 16384 ⌝ }
+    ensures { λ x. ⌜ x ≡ positionLegal r ⌝ }
+{
+    if r.phase == 2 {
+        return 2 <= r.position && r.position <= r.blocks + 1;
+    }
+    r.position == 0
+}
+
+// Whether the registers are legal.
+pub fn legal(r: Regs) -> bool
+    requires { ⌜ r .blocks ≤ 16384 ⌝ }
+    ensures { λ x. ⌜ x ≡ legal r ⌝ }
+{
+    r.phase <= 2
+        && (head_legal(r.blocks, r.phase, r.grey)
+            && (is_block_or_none(r.blocks, r.free)
+                && (is_block_or_none(r.blocks, r.root)
+                    && (r.count <= r.blocks && position_legal(r)))))
+}
+
+// Refusals 1 and 2.
+pub fn entry(r: Regs, words: &[u32], colours: &[u32], bytes: &[u8]) -> u32
+    ensures { λ x. ⌜ x ≡ entry (heap r (now (words .entry)) (now (colours .entry)) (now (bytes .entry))) ⌝ }
+{
+    if fits(r.blocks, r.pace, words.len(), colours.len(), bytes.len()) {
+        if legal(r) {
+            return 0;
+        }
+        return 2;
+    }
+    1
+}
+
+// Refusal 3 for a block and a word.
+pub fn word_refusal(m: u32, b: u32, w: u32) -> u32
+    requires { ⌜ m ≤ 16384 ⌝ }
+    ensures { λ x. ⌜ x ≡ wordRefusal m b w ⌝ }
+{
+    if colours::is_block(m, b) {
+        if w <= 7 {
+            return 0;
+        }
+    }
+    3
+}
+
+// Refusal 3 for the holder of a new block: 0, 0 is the root.
+pub fn holder_place(m: u32, b: u32, w: u32) -> u32
+    requires { ⌜ m ≤ 16384 ⌝ }
+    ensures { λ x. ⌜ x ≡ holderPlace m b w ⌝ }
+{
+    if b == 0 {
+        if w == 0 {
+            return 0;
+        }
+        return 3;
+    }
+    word_refusal(m, b, w)
+}
+
+// Refusal 4 for a target.
+pub fn target_place(m: u32, t: u32) -> u32
+    requires { ⌜ m ≤ 16384 ⌝ }
+    ensures { λ x. ⌜ x ≡ targetPlace m t ⌝ }
+{
+    if is_block_or_none(m, t) {
+        return 0;
+    }
+    4
+}
+
+// Whether a white block b is doomed: the one place that looks at phase and position for it.
+pub fn doomed_white(r: Regs, b: u32) -> bool
+    ensures { λ x. ⌜ x ≡ doomedWhite r b ⌝ }
+{
+    r.phase == 2 && r.position <= b
+}
+
+// What a call may do with the block b of colour c.
+pub fn standing(r: Regs, b: u32, c: Colour) -> Standing
+    ensures { λ x. ⌜ x ≡ standing r b c ⌝ }
+{
+    match c {
+        Colour::White => {
+            if doomed_white(r, b) {
+                Standing::Gone
+            } else {
+                Standing::Live
+            }
+        }
+        Colour::Grey => Standing::Live,
+        Colour::Black => Standing::Live,
+        Colour::Free => Standing::Gone,
+        Colour::Outside => Standing::Damaged,
+    }
+}
+
+// What a call may do with the block b.
+pub fn standing_of(r: Regs, colours: &[u32], b: u32) -> Standing
+    requires { ⌜ (r .blocks ≤ 16384) × Block (length (now colours)) b ⌝ }
+    ensures { λ x. ⌜ ((ws bs : List ℕ) → x ≡ standingOf (heap r ws (now (colours .entry)) bs) b) ⌝ }
+{
+    standing(
+        r,
+        b,
+        colours::colour(r.blocks, colours::word_of(colours, b)),
+    )
+}
+
+// The refusal for a block of that standing: gone where it is free or doomed, 8 where its colour is outside the layout.
+pub fn refusal_of(gone: u32, s: Standing) -> u32
+    ensures { λ x. ⌜ x ≡ refusalOf gone s ⌝ }
+{
+    match s {
+        Standing::Live => 0,
+        Standing::Gone => gone,
+        Standing::Damaged => 8,
+    }
+}
+
+// Refusals 8 and 5 for the block to read or write.
+pub fn holder_refusal(r: Regs, colours: &[u32], b: u32) -> u32
+    requires { ⌜ (r .blocks ≤ 16384) × Block (length (now colours)) b ⌝ }
+    ensures { λ x. ⌜ ((ws bs : List ℕ) → x ≡ holderRefusal (heap r ws (now (colours .entry)) bs) b) ⌝ }
+{
+    refusal_of(5, standing_of(r, colours, b))
+}
+
+// Refusals 8 and 6 for the target, which is 0 or a block.
+pub fn target_refusal(r: Regs, colours: &[u32], t: u32) -> u32
+    requires { ⌜ (r .blocks ≤ 16384) × (isBlockOrNone (length (now colours)) t ≡ true) ⌝ }
+    ensures { λ x. ⌜ ((ws bs : List ℕ) → x ≡ targetRefusal (heap r ws (now (colours .entry)) bs) t) ⌝ }
+{
+    if t == 0 {
+        return 0;
+    }
+    refusal_of(6, standing_of(r, colours, t))
+}
+
+// Every refusal of Read: 1, 2, 3, then 8 and 5.
+pub fn read_refusal(r: Regs, words: &[u32], colours: &[u32], bytes: &[u8], b: u32, w: u32) -> u32
+    ensures { λ x. ⌜ x ≡ readRefusal b w (heap r (now (words .entry)) (now (colours .entry)) (now (bytes .entry))) ⌝ }
+{
+    let e = entry(r, words, colours, bytes);
+    if e != 0 {
+        return e;
+    }
+    let p = word_refusal(r.blocks, b, w);
+    if p != 0 {
+        return p;
+    }
+    holder_refusal(r, colours, b)
+}
+
+// What a call gives back that is refused by n: no value, no units, the registers as they were.
+pub fn refused(r: Regs, n: u32) -> Outcome
+    ensures { λ o. ⌜ ((ws cs bs : List ℕ) → given o ws cs bs ≡ refuse n (heap r ws cs bs)) ⌝ }
+{
+    Outcome {
+        regs: r,
+        answer: Answer {
+            refusal: n,
+            value: 0,
+            units: 0,
+        },
+    }
+}
+
+// What a call gives back that is done with the value v and did no units.
+pub fn done(r: Regs, v: u32) -> Outcome
+    ensures { λ o. ⌜ ((ws cs bs : List ℕ) → given o ws cs bs ≡ done v (heap r ws cs bs)) ⌝ }
+{
+    Outcome {
+        regs: r,
+        answer: Answer {
+            refusal: 0,
+            value: v,
+            units: 0,
+        },
+    }
+}
