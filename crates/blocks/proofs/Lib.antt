@@ -5,6 +5,7 @@ pub mod Lists
 pub mod Entering
 pub mod Refusals
 pub mod Reading
+pub mod Storing
 pub mod Colours
 pub mod Bytes
 pub mod Steps
@@ -13,4 +14,5 @@ pub mod Marking
 pub mod Sweeping
 pub mod Running
 pub mod Kept
+pub mod Working
 pub mod Cases

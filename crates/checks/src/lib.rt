@@ -16,7 +16,7 @@ ghost use Rattle.blocks.specs.Colouring.{headLegal};
 ghost use Rattle.blocks.specs.Standing.{doomedWhite, standing, standingOf, refusalOf, holderRefusal, targetRefusal};
 ghost use Rattle.blocks.specs.Entry.{numbersFit, lengthsFit, fits, isBlockOrNone, positionLegal, legal, entry, wordRefusal, holderPlace, targetPlace};
 ghost use Rattle.blocks.specs.Read.{readRefusal};
-ghost use Rattle.blocks.specs.Answers.{given, refuse, done};
+ghost use Rattle.blocks.specs.Answers.{given, answering, refuse, done};
 
 // Whether M and the pace fit.
 pub fn numbers_fit(m: u32, u: u32) -> bool
@@ -213,30 +213,30 @@ pub fn read_refusal(r: Regs, words: &[u32], colours: &[u32], bytes: &[u8], b: u3
     holder_refusal(r, colours, b)
 }
 
-// What a call gives back that is refused by n: no value, no units, the registers as they were.
-pub fn refused(r: Regs, n: u32) -> Outcome
-    ensures { λ o. ⌜ ((ws cs bs : List ℕ) → given o ws cs bs ≡ refuse n (heap r ws cs bs)) ⌝ }
+// What a call gives back: the registers afterwards, the refusal or 0, the value and the units done.
+pub fn answered(r: Regs, refusal: u32, value: u32, units: u32) -> Outcome
+    ensures { λ o. ⌜ ((ws cs bs : List ℕ) → given o ws cs bs ≡ answering refusal value units (heap r ws cs bs)) ⌝ }
 {
     Outcome {
         regs: r,
         answer: Answer {
-            refusal: n,
-            value: 0,
-            units: 0,
+            refusal,
+            value,
+            units,
         },
     }
 }
 
-// What a call gives back that is done with the value v and did no units.
+// Refused by n: no value, no units, the registers as they were.
+pub fn refused(r: Regs, n: u32) -> Outcome
+    ensures { λ o. ⌜ ((ws cs bs : List ℕ) → given o ws cs bs ≡ refuse n (heap r ws cs bs)) ⌝ }
+{
+    answered(r, n, 0, 0)
+}
+
+// Done with the value v, and no units.
 pub fn done(r: Regs, v: u32) -> Outcome
     ensures { λ o. ⌜ ((ws cs bs : List ℕ) → given o ws cs bs ≡ done v (heap r ws cs bs)) ⌝ }
 {
-    Outcome {
-        regs: r,
-        answer: Answer {
-            refusal: 0,
-            value: v,
-            units: 0,
-        },
-    }
+    answered(r, 0, v, 0)
 }
