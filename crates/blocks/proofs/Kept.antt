@@ -1,8 +1,8 @@
 -- A unit keeps what tests 1 and 2 ask: legal registers and buffers that fit.
 --     greyAll-kept             greying keeps a legal grey head and the buffer's length
---     unit-kept, done-kept     a unit leaves a Ready heap Ready
+--     unit-kept, done-kept, run-kept, ran-kept     a unit, and units in a row, leave a Ready heap Ready
 -- Assumes nothing.
-use Prim.Native.Nat.{ℕ, _+_, _*_, _≤_, _<_}
+use Prim.Native.Nat.{ℕ, zero, suc, _+_, _*_, _≤_, _<_}
 use mathlib.Core.Path.{_≡_, refl, sym, _∙_, ap, subst}
 use mathlib.Core.Logic.{_≢_, ⊎-elim}
 use mathlib.Core.Bool.{Bool, true, false, _&&_, _||_}
@@ -26,6 +26,7 @@ use Rattle.blocks.specs.Heap.{Heap, heap, colouring, withRegs, withColou
 use Rattle.blocks.specs.WellFormed.{Block}
 use Rattle.blocks.specs.Ready.{Ready}
 use Rattle.blocks.specs.OneUnit.{UnitEnd, markStep, step, metBlock, metWord, begun, marked, allSound, turned, advance, reclaimed, whitened, passed, act, unit, ended}
+use Rattle.blocks.specs.Units.{RunEnd, run}
 use Rattle.blocks.proofs.Tests.{both-true, by-test, by-eq, clash, if-ind}
 use Rattle.blocks.proofs.Blocks.{isBlock-block, block-isBlock}
 use Rattle.blocks.proofs.Colours.{head-block}
@@ -284,3 +285,15 @@ pub done-kept : (h : Heap) → Ready h → (r s : Regs) (ws cs bs : List ℕ) (p
 unfolding ended
 done-kept h d r s ws cs bs p e q =
     subst (λ (u : UnitEnd). Ready (u .heap)) (sym e ∙ ap (λ (x : Progress). ended r x ws cs bs) q) (unit-kept h d)
+
+-- units in a row keep it too
+pub run-kept : (n i : ℕ) (h : Heap) → Ready h → Ready (run n i h .heap)
+unfolding run
+run-kept zero i h d = d
+run-kept (suc n) i h d =
+    if-ind (λ (e : RunEnd). Ready (e .heap)) (unit h .finished)
+    (λ f. run-kept n (i + 1) (unit h .heap) (unit-kept h d))
+    (λ f. unit-kept h d)
+
+pub ran-kept : {e : RunEnd} (n i : ℕ) (h : Heap) → e ≡ run n i h → Ready h → Ready (e .heap)
+ran-kept n i h q d = rw q (run-kept n i h d)

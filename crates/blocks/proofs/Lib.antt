@@ -15,4 +15,5 @@ pub mod Sweeping
 pub mod Running
 pub mod Kept
 pub mod Working
+pub mod Allocating
 pub mod Cases

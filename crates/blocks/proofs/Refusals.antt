@@ -8,7 +8,7 @@
 --     white-doomed, white-stays     the two ways of standing for a white block
 --     standing-as, holder-as, target-none, target-as     the standing of a block, and the refusals by it
 --     Readable, readable       what a refusal number 0 of Read establishes
---     word-zero, target-zero   what a refusal number 0 of wordRefusal and of targetPlace establishes
+--     word-zero, target-zero, target-within     what a refusal number 0 of wordRefusal and of targetPlace establishes
 -- Assumes nothing.
 use Prim.Native.Nat.{ℕ, _≤_, _<_}
 use mathlib.Core.Path.{_≡_, refl, sym, _∙_}
@@ -107,6 +107,10 @@ module _ (m t : ℕ) where
   pub target-zero : targetPlace m t ≡ 0 → isBlockOrNone m t ≡ true
   unfolding targetPlace
   target-zero e = choose-zero (isBlockOrNone m t) 4 (omega arith) e
+
+-- a target of m blocks, where a buffer has m entries
+pub target-within : {m n : ℕ} (t : ℕ) → n ≡ m → targetPlace m t ≡ 0 → isBlockOrNone n t ≡ true
+target-within {m} {n} t e z = rw e (target-zero m t z)
 
 module _ (r : Regs) (b : ℕ) where
   pub white-doomed : doomedWhite r b ≡ true → Gone ≡ standing r b White

@@ -1,5 +1,6 @@
 // Work: units of the collector, as many as the running program asks for.
-use blocks::{Outcome, Regs};
+use blocks::Outcome;
+use blocks::Regs;
 ghost use mathlib.Core.Path.{_≡_};
 ghost use Rattle.blocks.specs.Heap.{heap};
 ghost use Rattle.blocks.specs.Answers.{given};

@@ -1,0 +1,181 @@
+// Allocate: its units first, then the tests of the holder and of the free list, then the taking.
+use blocks::Colour;
+use blocks::Outcome;
+use blocks::Regs;
+ghost use mathlib.Core.Path.{_≡_};
+ghost use mathlib.Core.Logic.{_≢_};
+ghost use mathlib.Core.List.{List};
+ghost use Prim.Native.Nat.{ℕ, _≤_, _*_};
+ghost use lib.ListN.{length};
+ghost use Rattle.blocks.specs.WellFormed.{Block};
+ghost use Rattle.blocks.specs.Heap.{heap};
+ghost use Rattle.blocks.specs.Ready.{Ready};
+ghost use Rattle.blocks.specs.Answers.{given};
+ghost use Rattle.blocks.specs.Units.{stopped};
+ghost use Rattle.blocks.specs.Allocate.{unitsDue, freeColour, firstFits, listRefusal, newColour, taken, held, takeRefusal, allocated, allocate};
+
+// The units that an allocation does first: the pace, or at pace 0 twice M / F, F being the free count, 0 counted as 1.
+pub fn units_due(r: Regs) -> u32
+    requires { ⌜ r .blocks ≤ 16384 ⌝ }
+    ensures { λ n. ⌜ n ≡ unitsDue r ⌝ }
+{
+    if r.pace != 0 {
+        return r.pace;
+    }
+    if r.count == 0 {
+        return 2 * r.blocks;
+    }
+    2 * (r.blocks / r.count)
+}
+
+// Whether a block of the colour is free.
+pub fn free_colour(c: Colour) -> bool
+    ensures { λ x. ⌜ x ≡ freeColour c ⌝ }
+{
+    match c {
+        Colour::White => false,
+        Colour::Grey => false,
+        Colour::Black => false,
+        Colour::Free => true,
+        Colour::Outside => false,
+    }
+}
+
+// Whether the first free block is coloured free and its link is 0 or a block.
+pub fn first_fits(r: Regs, words: &[u32], colours: &[u32]) -> bool
+    requires { ⌜ (r .blocks ≤ 16384) × (length (now words) ≡ 8 * r .blocks) × (length (now colours) ≡ r .blocks) × Block (r .blocks) (r .free) ⌝ }
+    ensures { λ x. ⌜ ((bs : List ℕ) → x ≡ firstFits (heap r (now (words .entry)) (now (colours .entry)) bs)) ⌝ }
+{
+    let c = colours::colour(r.blocks, colours::word_of(colours, r.free));
+    if free_colour(c) {
+        return checks::is_block_or_none(r.blocks, words[8 * (r.free as usize - 2)]);
+    }
+    false
+}
+
+// Refusals 8 and 7 for the free list.
+pub fn list_refusal(r: Regs, words: &[u32], colours: &[u32]) -> u32
+    requires { ⌜ (r .blocks ≤ 16384) × (length (now words) ≡ 8 * r .blocks) × (length (now colours) ≡ r .blocks) × (r .free ≢ 0 → Block (r .blocks) (r .free)) ⌝ }
+    ensures { λ x. ⌜ ((bs : List ℕ) → x ≡ listRefusal (heap r (now (words .entry)) (now (colours .entry)) bs)) ⌝ }
+{
+    if r.free == 0 {
+        if r.count == 0 {
+            return 7;
+        }
+        return 8;
+    }
+    if r.count == 0 {
+        return 8;
+    }
+    if first_fits(r, words, colours) {
+        return 0;
+    }
+    8
+}
+
+// The colour word of the new block b.
+pub fn new_colour(r: Regs, b: u32) -> u32
+    ensures { λ x. ⌜ x ≡ newColour r b ⌝ }
+{
+    if r.phase == 1 {
+        return colours::BLACK;
+    }
+    if r.phase == 2 {
+        if r.position <= b {
+            return colours::BLACK;
+        }
+    }
+    colours::WHITE
+}
+
+// The first free block is taken off the free list, its word 0 zeroed, and coloured. Answers the registers afterwards.
+pub fn take(r: Regs, words: &mut [u32], colours: &mut [u32]) -> Regs
+    requires { ⌜ (length (now words) ≡ 8 * r .blocks) × (length (now colours) ≡ r .blocks) × Block (r .blocks) (r .free) × (1 ≤ r .count) ⌝ }
+    ensures { λ s. ⌜ ((bs : List ℕ) → heap s (now (words .exit)) (now (colours .exit)) bs ≡ taken (heap r (now (words .entry)) (now (colours .entry)) bs)) ⌝ }
+{
+    let at = 8 * (r.free as usize - 2);
+    let mut s = r;
+    s.free = words[at];
+    s.count = r.count - 1;
+    words[at] = 0;
+    colours::paint(colours, r.free, new_colour(r, r.free));
+    s
+}
+
+// The reference to x is stored: in word w of b, or in the root where b is 0. Answers the registers afterwards.
+pub fn hold(r: Regs, words: &mut [u32], bytes: &mut [u8], b: u32, w: u32, x: u32) -> Regs
+    requires { ⌜ (length (now words) ≡ 8 * length (now bytes)) × (b ≢ 0 → Block (length (now bytes)) b × (w ≤ 7)) ⌝ }
+    ensures { λ s. ⌜ ((cs : List ℕ) → heap s (now (words .exit)) cs (now (bytes .exit)) ≡ held b w x (heap r (now (words .entry)) cs (now (bytes .entry)))) ⌝ }
+{
+    if b == 0 {
+        let mut s = r;
+        s.root = x;
+        return s;
+    }
+    storing::put_reference(words, bytes, b, w, x);
+    r
+}
+
+// Refusals 8 and 5 for the holder, which is tested after the units, then 8 and 7 for the free list.
+pub fn take_refusal(r: Regs, words: &[u32], colours: &[u32], b: u32) -> u32
+    requires { ⌜ (r .blocks ≤ 16384) × (length (now words) ≡ 8 * r .blocks) × (length (now colours) ≡ r .blocks) × (r .free ≢ 0 → Block (r .blocks) (r .free)) × (b ≢ 0 → Block (r .blocks) b) ⌝ }
+    ensures { λ x. ⌜ ((bs : List ℕ) → x ≡ takeRefusal b (heap r (now (words .entry)) (now (colours .entry)) bs)) ⌝ }
+{
+    if b == 0 {
+        return list_refusal(r, words, colours);
+    }
+    let d = checks::holder_refusal(r, colours, b);
+    if d != 0 {
+        return d;
+    }
+    list_refusal(r, words, colours)
+}
+
+// What an allocation does once its units are done.
+pub fn allocate_after(
+    r: Regs,
+    words: &mut [u32],
+    colours: &mut [u32],
+    bytes: &mut [u8],
+    units: u32,
+    b: u32,
+    w: u32,
+) -> Outcome
+    requires { ⌜ Ready (heap r (now words) (now colours) (now bytes)) × (b ≢ 0 → Block (r .blocks) b × (w ≤ 7)) ⌝ }
+    ensures { λ o. ⌜ given o (now (words .exit)) (now (colours .exit)) (now (bytes .exit)) ≡ allocated b w (stopped 0 units (heap r (now (words .entry)) (now (colours .entry)) (now (bytes .entry)))) ⌝ }
+{
+    let e = take_refusal(r, &words[..], &colours[..], b);
+    if e != 0 {
+        return checks::answered(r, e, 0, units);
+    }
+    let s = take(r, words, colours);
+    let t = hold(s, words, bytes, b, w, r.free);
+    checks::answered(t, 0, r.free, units)
+}
+
+// Allocate: a new block for word w of the block b, or with 0, 0 for the root. Its value is the new block.
+pub fn allocate(
+    r: Regs,
+    words: &mut [u32],
+    colours: &mut [u32],
+    bytes: &mut [u8],
+    b: u32,
+    w: u32,
+) -> Outcome
+    ensures { λ o. ⌜ given o (now (words .exit)) (now (colours .exit)) (now (bytes .exit)) ≡ allocate b w (heap r (now (words .entry)) (now (colours .entry)) (now (bytes .entry))) ⌝ }
+{
+    let e = checks::entry(r, &words[..], &colours[..], &bytes[..]);
+    if e != 0 {
+        return checks::refused(r, e);
+    }
+    let p = checks::holder_place(r.blocks, b, w);
+    if p != 0 {
+        return checks::refused(r, p);
+    }
+    let ran = collector::run(r, words, colours, bytes, units_due(r));
+    let s = ran.regs;
+    if ran.refusal != 0 {
+        return checks::answered(s, ran.refusal, 0, ran.units);
+    }
+    allocate_after(s, words, colours, bytes, ran.units, b, w)
+}

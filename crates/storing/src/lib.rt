@@ -1,0 +1,149 @@
+// Store number, Store reference and Set root: what the running program writes.
+use blocks::Outcome;
+use blocks::Regs;
+ghost use mathlib.Core.Path.{_≡_};
+ghost use mathlib.Core.List.{List};
+ghost use Prim.Native.Nat.{ℕ, _*_, _≤_};
+ghost use lib.ListN.{length, set};
+ghost use Rattle.blocks.specs.WellFormed.{Block};
+ghost use Rattle.blocks.specs.Block.{place, setBit, clearBit};
+ghost use Rattle.blocks.specs.Heap.{heap};
+ghost use Rattle.blocks.specs.Answers.{given};
+ghost use Rattle.blocks.specs.Store.{barrier, putNumber, putReference, storeNumber, storeRefusal, storeReference, rootRefusal, setRoot};
+
+// The barrier: while marking, a white target is greyed. Answers the registers afterwards.
+pub fn barrier(r: Regs, colours: &mut [u32], t: u32) -> Regs
+    requires { ⌜ (r .blocks ≤ 16384) × (length (now colours) ≡ r .blocks) ⌝ }
+    ensures { λ s. ⌜ ((ws bs : List ℕ) → heap s ws (now (colours .exit)) bs ≡ barrier t (heap r ws (now (colours .entry)) bs)) ⌝ }
+{
+    let mut s = r;
+    if r.phase == 1 {
+        let head = colours::grey_white(r.blocks, r.grey, colours, t);
+        s.grey = head;
+    }
+    s
+}
+
+// Word w of the block b becomes the number v.
+pub fn put_number(words: &mut [u32], bytes: &mut [u8], b: u32, w: u32, v: u32)
+    requires { ⌜ (length (now words) ≡ 8 * length (now bytes)) × Block (length (now bytes)) b × (w ≤ 7) ⌝ }
+    ensures { λ _. ⌜ ((r : Regs) (cs : List ℕ) → heap r (now (words .exit)) cs (now (bytes .exit)) ≡ putNumber b w v (heap r (now (words .entry)) cs (now (bytes .entry)))) ⌝ }
+{
+    words[8 * (b as usize - 2) + w as usize] = v;
+    cells::clear_bit(bytes, b, w as usize);
+}
+
+// Word w of the block b becomes a reference to t, or the reference 0.
+pub fn put_reference(words: &mut [u32], bytes: &mut [u8], b: u32, w: u32, t: u32)
+    requires { ⌜ (length (now words) ≡ 8 * length (now bytes)) × Block (length (now bytes)) b × (w ≤ 7) ⌝ }
+    ensures { λ _. ⌜ ((r : Regs) (cs : List ℕ) → heap r (now (words .exit)) cs (now (bytes .exit)) ≡ putReference b w t (heap r (now (words .entry)) cs (now (bytes .entry)))) ⌝ }
+{
+    words[8 * (b as usize - 2) + w as usize] = t;
+    cells::set_bit(bytes, b, w as usize);
+}
+
+// Every refusal of Set root: 1, 2, 4, then 8 and 6.
+pub fn root_refusal(r: Regs, words: &[u32], colours: &[u32], bytes: &[u8], t: u32) -> u32
+    ensures { λ x. ⌜ x ≡ rootRefusal t (heap r (now (words .entry)) (now (colours .entry)) (now (bytes .entry))) ⌝ }
+{
+    let e = checks::entry(r, words, colours, bytes);
+    if e != 0 {
+        return e;
+    }
+    let p = checks::target_place(r.blocks, t);
+    if p != 0 {
+        return p;
+    }
+    checks::target_refusal(r, colours, t)
+}
+
+// Every refusal of Store reference: 1, 2, 3, 4, then 8 and 5 for the block, then 8 and 6 for the target.
+pub fn store_refusal(
+    r: Regs,
+    words: &[u32],
+    colours: &[u32],
+    bytes: &[u8],
+    b: u32,
+    w: u32,
+    t: u32,
+) -> u32
+    ensures { λ x. ⌜ x ≡ storeRefusal b w t (heap r (now (words .entry)) (now (colours .entry)) (now (bytes .entry))) ⌝ }
+{
+    let e = checks::entry(r, words, colours, bytes);
+    if e != 0 {
+        return e;
+    }
+    let p = checks::word_refusal(r.blocks, b, w);
+    if p != 0 {
+        return p;
+    }
+    let q = checks::target_place(r.blocks, t);
+    if q != 0 {
+        return q;
+    }
+    let d = checks::holder_refusal(r, colours, b);
+    if d != 0 {
+        return d;
+    }
+    checks::target_refusal(r, colours, t)
+}
+
+// Store number: word w of the block b becomes the number v.
+pub fn store_number(
+    r: Regs,
+    words: &mut [u32],
+    colours: &mut [u32],
+    bytes: &mut [u8],
+    b: u32,
+    w: u32,
+    v: u32,
+) -> Outcome
+    ensures { λ o. ⌜ given o (now (words .exit)) (now (colours .exit)) (now (bytes .exit)) ≡ storeNumber b w v (heap r (now (words .entry)) (now (colours .entry)) (now (bytes .entry))) ⌝ }
+{
+    let e = checks::read_refusal(r, &words[..], &colours[..], &bytes[..], b, w);
+    if e != 0 {
+        return checks::refused(r, e);
+    }
+    put_number(words, bytes, b, w, v);
+    checks::done(r, 0)
+}
+
+// Store reference: word w of the block b becomes a reference to t, or the reference 0.
+pub fn store_reference(
+    r: Regs,
+    words: &mut [u32],
+    colours: &mut [u32],
+    bytes: &mut [u8],
+    b: u32,
+    w: u32,
+    t: u32,
+) -> Outcome
+    ensures { λ o. ⌜ given o (now (words .exit)) (now (colours .exit)) (now (bytes .exit)) ≡ storeReference b w t (heap r (now (words .entry)) (now (colours .entry)) (now (bytes .entry))) ⌝ }
+{
+    let e = store_refusal(r, &words[..], &colours[..], &bytes[..], b, w, t);
+    if e != 0 {
+        return checks::refused(r, e);
+    }
+    let s = barrier(r, colours, t);
+    put_reference(words, bytes, b, w, t);
+    checks::done(s, 0)
+}
+
+// Set root: the root becomes t, or none.
+pub fn set_root(
+    r: Regs,
+    words: &mut [u32],
+    colours: &mut [u32],
+    bytes: &mut [u8],
+    t: u32,
+) -> Outcome
+    ensures { λ o. ⌜ given o (now (words .exit)) (now (colours .exit)) (now (bytes .exit)) ≡ setRoot t (heap r (now (words .entry)) (now (colours .entry)) (now (bytes .entry))) ⌝ }
+{
+    let e = root_refusal(r, &words[..], &colours[..], &bytes[..], t);
+    if e != 0 {
+        return checks::refused(r, e);
+    }
+    let mut s = barrier(r, colours, t);
+    s.root = t;
+    checks::done(s, 0)
+}
