@@ -17,3 +17,4 @@ pub mod Kept
 pub mod Working
 pub mod Allocating
 pub mod Cases
+pub mod Contracts

@@ -19,3 +19,4 @@ pub mod Audit
 pub mod Session
 pub mod Cases
 pub mod Ready
+pub mod Contracts

@@ -1,4 +1,5 @@
 -- `reading::look` meets its contract: a law of the definition for each way out. Assumes nothing.
+use native.Mathlib.Omega.{arith}
 use Rattle.blocks.proofs.Tests.{so}
 use Rattle.blocks.proofs.Refusals.{readable}
 use Rattle.blocks.proofs.Reading.{part-within, look-refused, look-seen}
@@ -42,7 +43,7 @@ part-result-start-2 : tie.Need-part-result-start-2
 part-result-start-2 c = search needs
 
 part-result-end-2 : tie.Need-part-result-end-2
-part-result-end-2 c = part-within (readable _ _ _ (so (c .before .read-refusal .ensures) (c .if1 .left)))
+part-result-end-2 c = omega (arith, part-within (readable _ _ _ (so (c .before .read-refusal .ensures) (c .if1 .left))))
 
 returns-2 : tie.Need-returns-2
 returns-2 c =
