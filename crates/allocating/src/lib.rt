@@ -1,5 +1,4 @@
 // Allocate: its units first, then the tests of the holder and of the free list, then the taking.
-use blocks::Colour;
 use blocks::Outcome;
 use blocks::Regs;
 ghost use mathlib.Core.Path.{_≡_};
@@ -12,7 +11,7 @@ ghost use Rattle.blocks.specs.Heap.{heap};
 ghost use Rattle.blocks.specs.Ready.{Ready};
 ghost use Rattle.blocks.specs.Answers.{given};
 ghost use Rattle.blocks.specs.Units.{stopped};
-ghost use Rattle.blocks.specs.Allocate.{unitsDue, freeColour, firstFits, listRefusal, newColour, taken, held, takeRefusal, allocated, allocate};
+ghost use Rattle.blocks.specs.Allocate.{unitsDue, firstFits, listRefusal, newColour, taken, held, takeRefusal, allocated, allocate};
 
 // The units that an allocation does first: the pace, or at pace 0 twice M / F, F being the free count, 0 counted as 1.
 pub fn units_due(r: Regs) -> u32
@@ -28,26 +27,13 @@ pub fn units_due(r: Regs) -> u32
     2 * (r.blocks / r.count)
 }
 
-// Whether a block of the colour is free.
-pub fn free_colour(c: Colour) -> bool
-    ensures { λ x. ⌜ x ≡ freeColour c ⌝ }
-{
-    match c {
-        Colour::White => false,
-        Colour::Grey => false,
-        Colour::Black => false,
-        Colour::Free => true,
-        Colour::Outside => false,
-    }
-}
-
 // Whether the first free block is coloured free and its link is 0 or a block.
 pub fn first_fits(r: Regs, words: &[u32], colours: &[u32]) -> bool
     requires { ⌜ (r .blocks ≤ 16384) × (length (now words) ≡ 8 * r .blocks) × (length (now colours) ≡ r .blocks) × Block (r .blocks) (r .free) ⌝ }
     ensures { λ x. ⌜ ((bs : List ℕ) → x ≡ firstFits (heap r (now (words .entry)) (now (colours .entry)) bs)) ⌝ }
 {
     let c = colours::colour(r.blocks, colours::word_of(colours, r.free));
-    if free_colour(c) {
+    if colours::free_colour(c) {
         return checks::is_block_or_none(r.blocks, words[8 * (r.free as usize - 2)]);
     }
     false

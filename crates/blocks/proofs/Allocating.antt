@@ -25,7 +25,7 @@ use Rattle.blocks.specs.declared.Colour.{Colour}
 use Rattle.blocks.specs.Tests.{if_then_else_, _▷_}
 use Rattle.blocks.specs.Registers.{idle, marking, sweeping, withFree, withCount, withRoot}
 use Rattle.blocks.specs.Block.{base}
-use Rattle.blocks.specs.Colouring.{white, black, colour, colourWord, paint}
+use Rattle.blocks.specs.Colouring.{white, black, freeColour, colour, colourWord, paint}
 use Rattle.blocks.specs.Heap.{Heap, heap, withRegs}
 use Rattle.blocks.specs.Standing.{holderRefusal}
 use Rattle.blocks.specs.Entry.{entry, holderPlace, isBlockOrNone}
@@ -33,7 +33,7 @@ use Rattle.blocks.specs.Answers.{Given, answering, refuse}
 use Rattle.blocks.specs.Units.{RunEnd, stopped, run}
 use Rattle.blocks.specs.WellFormed.{Block}
 use Rattle.blocks.specs.Store.{putReference}
-use Rattle.blocks.specs.Allocate.{unitsDue, freeColour, firstFits, listRefusal, newColour, taken, held, takeRefusal, allocated, allocate}
+use Rattle.blocks.specs.Allocate.{unitsDue, firstFits, listRefusal, newColour, taken, held, takeRefusal, allocated, allocate}
 use Rattle.blocks.proofs.Tests.{by-eq}
 use Rattle.blocks.proofs.Blocks.{block-as}
 use Rattle.blocks.proofs.Entering.{first-zero}

@@ -4,20 +4,20 @@
 use mathlib.Core.Path.{refl}
 use Rattle.blocks.specs.Tests.{_▷_}
 use Rattle.blocks.specs.Block.{isBlock, eightWords, withEight, bit, withBit, withoutBit, referencesFrom}
-use Rattle.blocks.specs.Colouring.{colour, greyWhite, greyAll, allocatedColour, isAllocated, headLegal}
-use Rattle.blocks.specs.Standing.{doomedWhite, standing, standingOf, refusalOf, holderRefusal, targetRefusal}
+use Rattle.blocks.specs.Colouring.{colour, greyWhite, greyAll, isAllocated, headLegal}
+use Rattle.blocks.specs.Standing.{doomedWhite, standing, standingOf, holderRefusal, targetRefusal}
 use Rattle.blocks.specs.Entry.{numbersFit, lengthsFit, fits, isBlockOrNone, positionLegal, legal, entry, wordRefusal, holderPlace, targetPlace}
 use Rattle.blocks.specs.Answers.{unless}
-use Rattle.blocks.specs.OneUnit.{markStep, sweepStep, step, metBlock, metWord, begun, marked, allSound, turned, advance, reclaimed, whitened, passed, act, unit}
+use Rattle.blocks.specs.OneUnit.{step, metBlock, metWord, begun, marked, allSound, turned, advance, reclaimed, whitened, passed, act, unit}
 use Rattle.blocks.specs.Units.{run}
 use Rattle.blocks.specs.Format.{freeList, formatted, format}
 use Rattle.blocks.specs.Read.{readRefusal, readAnswer, read}
 use Rattle.blocks.specs.Store.{barrier, putNumber, putReference, storeNumber, storeRefusal, storeReference}
-use Rattle.blocks.specs.Allocate.{unitsDue, freeColour, firstFits, listRefusal, newColour, taken, held, takeRefusal, allocated, allocate}
+use Rattle.blocks.specs.Allocate.{unitsDue, firstFits, listRefusal, newColour, taken, held, takeRefusal, allocated, allocate}
 use Rattle.blocks.specs.Work.{countRefusal, work}
 use Rattle.blocks.specs.Session.{does, session, lastOf}
 use Rattle.blocks.specs.Cases.{HandChecked}
 
 pub hand-checked : HandChecked
-unfolding _▷_ isBlock eightWords withEight bit withBit withoutBit referencesFrom colour greyWhite greyAll allocatedColour isAllocated headLegal doomedWhite standing standingOf refusalOf holderRefusal targetRefusal numbersFit lengthsFit fits isBlockOrNone positionLegal legal entry wordRefusal holderPlace targetPlace unless markStep sweepStep step metBlock metWord begun marked allSound turned advance reclaimed whitened passed act unit run freeList formatted format readRefusal readAnswer read barrier putNumber putReference storeNumber storeRefusal storeReference unitsDue freeColour firstFits listRefusal newColour taken held takeRefusal allocated allocate countRefusal work does session lastOf
+unfolding _▷_ isBlock eightWords withEight bit withBit withoutBit referencesFrom colour greyWhite greyAll isAllocated headLegal doomedWhite standing standingOf holderRefusal targetRefusal numbersFit lengthsFit fits isBlockOrNone positionLegal legal entry wordRefusal holderPlace targetPlace unless step metBlock metWord begun marked allSound turned advance reclaimed whitened passed act unit run freeList formatted format readRefusal readAnswer read barrier putNumber putReference storeNumber storeRefusal storeReference unitsDue firstFits listRefusal newColour taken held takeRefusal allocated allocate countRefusal work does session lastOf
 hand-checked = refl

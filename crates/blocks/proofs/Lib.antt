@@ -14,7 +14,11 @@ pub mod Marking
 pub mod Sweeping
 pub mod Running
 pub mod Kept
+pub mod Formats
 pub mod Working
 pub mod Allocating
+pub mod Audits
+pub mod References
+pub mod Passing
 pub mod Cases
 pub mod Contracts

@@ -7,16 +7,14 @@
 --     allocate b w h       the call
 -- Assumes nothing.
 use Prim.Native.Nat.{ℕ, _+_, _-_, _*_, _/_, max}
-use mathlib.Core.Bool.{Bool, true, false, _&&_, _||_}
+use mathlib.Core.Bool.{Bool, _&&_, _||_}
 use lib.Dec.{eqb, leb}
 use lib.ListN.{set}
 use Rattle.blocks.specs.declared.Regs.{Regs}
-use Rattle.blocks.specs.declared.Colour.{Colour}
-use Rattle.blocks.specs.declared.Colour.the-variants.{White, Grey, Black, Free, Outside}
 use Rattle.blocks.specs.Tests.{if_then_else_, _▷_}
 use Rattle.blocks.specs.Registers.{marking, sweeping, withFree, withCount, withRoot}
 use Rattle.blocks.specs.Block.{isBlock, place, wordOf}
-use Rattle.blocks.specs.Colouring.{white, black, paint}
+use Rattle.blocks.specs.Colouring.{white, black, freeColour, paint}
 use Rattle.blocks.specs.Heap.{Heap, heap, colouring, withRegs, colourOf}
 use Rattle.blocks.specs.Standing.{holderRefusal}
 use Rattle.blocks.specs.Entry.{entry, holderPlace, isBlockOrNone}
@@ -27,13 +25,6 @@ use Rattle.blocks.specs.Store.{putReference}
 -- "Units: U, or if U is 0, M/F rounded down and then doubled, F being the free count at entry, 0 counted as 1."
 unfoldable pub unitsDue : Regs → ℕ
 unitsDue r = if eqb (r .pace) 0 then 2 * (r .blocks / max 1 (r .count)) else r .pace
-
-abbrev pub freeColour : Colour → Bool
-freeColour White = false
-freeColour Grey = false
-freeColour Black = false
-freeColour Free = true
-freeColour Outside = false
 
 -- 8: "a first free block not coloured free or whose link is no block and not 0"
 unfoldable pub firstFits : Heap → Bool

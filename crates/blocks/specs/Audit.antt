@@ -4,14 +4,14 @@
 --     allFrom p n b, countFrom p n b     p holds of n blocks from b on; of how many of them it holds
 --     walk p next end n a  n steps from a on, by next, meet only what p holds of, and lead to end
 --     layoutPasses m k     the colour layout's own part: legal colours, and the grey list has exactly the grey blocks
---     mayName h strict x   x is 0 or a live block, and where strict not a white one
+--     mayName r cs strict x     x is 0 or a live block, and where strict not a white one
 --     blockPasses h b      what asks only for a block's colour, its words and its byte
---     freesPass h          the free list has exactly the free blocks, free count of them
+--     freesPass r ws cs    the free list has exactly the free blocks, free count of them
 --     passes h             all of these
 --     audit h              the call: 1 for a well-formed heap, else 0
 -- Assumes nothing.
 use Prim.Native.Nat.{ℕ, zero, suc, _+_}
-use mathlib.Core.Bool.{Bool, true, false, _&&_, _||_, not}
+use mathlib.Core.Bool.{Bool, true, false, _&&_, _||_}
 use mathlib.Core.List.{List, [], _∷_}
 use lib.Dec.{eqb, leb}
 use lib.ListN.{getD}
@@ -21,13 +21,12 @@ use Rattle.blocks.specs.declared.Colour.the-variants.{White, Grey, Black
 use Rattle.blocks.specs.declared.Standing.{Standing}
 use Rattle.blocks.specs.declared.Standing.the-variants.{Live, Gone, Damaged}
 use Rattle.blocks.specs.Tests.{if_then_else_}
-use Rattle.blocks.specs.Registers.{idle, marking, sweeping}
+use Rattle.blocks.specs.Registers.{marking, sweeping}
 use Rattle.blocks.specs.Block.{isBlock, wordOf, byteOf, eightWords, references}
-use Rattle.blocks.specs.Colouring.{Colouring, white, colour, colourWord}
-use Rattle.blocks.specs.Heap.{Heap, colouring, colourOf, referencesOf}
-use Rattle.blocks.specs.Standing.{standingOf, doomedWhite}
+use Rattle.blocks.specs.Colouring.{Colouring, colour, colourWord, freeColour}
+use Rattle.blocks.specs.Heap.{Heap, colouring, colourOf}
+use Rattle.blocks.specs.Standing.{standing, doomedWhite}
 use Rattle.blocks.specs.Entry.{entry}
-use Rattle.blocks.specs.Allocate.{freeColour}
 use Rattle.blocks.specs.Answers.{Given, done}
 
 unfoldable pub allFrom : (ℕ → Bool) → ℕ → ℕ → Bool
@@ -76,16 +75,25 @@ isLive Live = true
 isLive Gone = false
 isLive Damaged = false
 
--- "0 or names an allocated block that isn't doomed"; "while marking the root is not white and no black block names a white one"
-unfoldable pub mayName : Heap → Bool → ℕ → Bool
-mayName h strict x =
-    eqb x 0
-    || (isBlock (h .regs .blocks) x
-    && (isLive (standingOf h x) && not (strict && eqb (colourWord (h .colours) x) white)))
+abbrev pub notWhite : Colour → Bool
+notWhite White = false
+notWhite Grey = true
+notWhite Black = true
+notWhite Free = true
+notWhite Outside = true
 
-unfoldable pub mayNameAll : Heap → Bool → List ℕ → Bool
-mayNameAll h strict [] = true
-mayNameAll h strict (x ∷ xs) = mayName h strict x && mayNameAll h strict xs
+-- "an allocated block that isn't doomed"; "while marking the root is not white and no black block names a white one"
+unfoldable pub mayBeNamed : Regs → Bool → ℕ → Colour → Bool
+mayBeNamed r strict x c = isLive (standing r x c) && (if strict then notWhite c else true)
+
+-- "0 or names an allocated block that isn't doomed"
+unfoldable pub mayName : Regs → List ℕ → Bool → ℕ → Bool
+mayName r cs strict x =
+    eqb x 0 || (isBlock (r .blocks) x && mayBeNamed r strict x (colour (r .blocks) (colourWord cs x)))
+
+unfoldable pub mayNameAll : Regs → List ℕ → Bool → List ℕ → Bool
+mayNameAll r cs strict [] = true
+mayNameAll r cs strict (x ∷ xs) = mayName r cs strict x && mayNameAll r cs strict xs
 
 -- "its words 1 to 7 are 0"
 unfoldable pub zeroFrom : ℕ → ℕ → List ℕ → Bool
@@ -96,28 +104,32 @@ zeroFrom (suc n) w part = eqb (getD part w 0) 0 && zeroFrom n (w + 1) part
 unfoldable pub mayBeBlack : Regs → ℕ → Bool
 mayBeBlack r b = eqb (r .phase) marking || (eqb (r .phase) sweeping && leb (r .position) b)
 
-unfoldable pub colourPasses : Heap → ℕ → Colour → Bool
-colourPasses h b White = doomedWhite (h .regs) b || mayNameAll h false (referencesOf h b)
-colourPasses h b Grey = eqb (h .regs .phase) marking && mayNameAll h false (referencesOf h b)
-colourPasses h b Black = mayBeBlack (h .regs) b && mayNameAll h (eqb (h .regs .phase) marking) (referencesOf h b)
-colourPasses h b Free = eqb (byteOf (h .bytes) b) 0 && zeroFrom 7 1 (eightWords (h .words) b)
-colourPasses h b Outside = false
+-- of the block b of colour c, whose words are part and whose byte is byte
+unfoldable pub colourPasses : Regs → List ℕ → List ℕ → ℕ → ℕ → Colour → Bool
+colourPasses r cs part byte b White = doomedWhite r b || mayNameAll r cs false (references part byte)
+colourPasses r cs part byte b Grey = eqb (r .phase) marking && mayNameAll r cs false (references part byte)
+colourPasses r cs part byte b Black =
+    mayBeBlack r b && mayNameAll r cs (eqb (r .phase) marking) (references part byte)
+colourPasses r cs part byte b Free = eqb byte 0 && zeroFrom 7 1 part
+colourPasses r cs part byte b Outside = false
 
 unfoldable pub blockPasses : Heap → ℕ → Bool
-blockPasses h b = colourPasses h b (colourOf h b)
+blockPasses h b =
+    colourPasses (h .regs) (h .colours) (eightWords (h .words) b) (byteOf (h .bytes) b) b (colourOf h b)
 
 -- "the free list ends, has exactly the free blocks .. and free count of them"
-unfoldable pub freesPass : Heap → Bool
-freesPass h =
-    eqb (countFrom (isFree (h .regs .blocks) (h .colours)) (h .regs .blocks) 2) (h .regs .count)
-    && walk (isFree (h .regs .blocks) (h .colours)) (λ b. wordOf (h .words) b 0) 0 (h .regs .count) (h .regs .free)
+unfoldable pub freesPass : Regs → List ℕ → List ℕ → Bool
+freesPass r ws cs =
+    eqb (countFrom (isFree (r .blocks) cs) (r .blocks) 2) (r .count)
+    && walk (isFree (r .blocks) cs) (λ b. wordOf ws b 0) 0 (r .count) (r .free)
 
 unfoldable pub passes : Heap → Bool
 passes h =
     eqb (entry h) 0
     && (layoutPasses (h .regs .blocks) (colouring h)
     && (allFrom (blockPasses h) (h .regs .blocks) 2
-    && (mayName h (eqb (h .regs .phase) marking) (h .regs .root) && freesPass h)))
+    && (mayName (h .regs) (h .colours) (eqb (h .regs .phase) marking) (h .regs .root)
+    && freesPass (h .regs) (h .words) (h .colours))))
 
 -- "Audit: 1 for a well-formed heap, else 0. It never refuses and changes nothing."
 unfoldable pub audit : Heap → Given

@@ -8,6 +8,7 @@
 --     toBlack k               the first of the grey list taken off and made black
 --     greyWhite m b k         b greyed if it is a white block
 --     greyAll m bs k          each of bs so, in order
+--     allocatedColour c, freeColour c     a block of that colour is allocated, is free
 --     isAllocated m cs b      b is a block whose colour is legal and not free
 --     coloursFit m n          n is the length of the colour buffer of m blocks
 --     headLegal m p g         g is a legal grey head in the phase p
@@ -74,6 +75,13 @@ allocatedColour Grey = true
 allocatedColour Black = true
 allocatedColour Free = false
 allocatedColour Outside = false
+
+abbrev pub freeColour : Colour → Bool
+freeColour White = false
+freeColour Grey = false
+freeColour Black = false
+freeColour Free = true
+freeColour Outside = false
 
 unfoldable pub isAllocated : ℕ → List ℕ → ℕ → Bool
 isAllocated m cs b = isBlock m b && allocatedColour (colour m (colourWord cs b))

@@ -1,11 +1,13 @@
 // The colour buffer: what a colour word means, and the grey list. Only this crate reads or writes a colour word.
+pub mod layout; // layout.rt: what the audit asks of the colours and of the grey list
+
 use blocks::Colour;
 ghost use mathlib.Core.Path.{_≡_};
 ghost use Prim.Native.Nat.{_≤_};
 ghost use lib.ListN.{length, replicate};
 ghost use Rattle.blocks.specs.WellFormed.{Block};
 ghost use Rattle.blocks.specs.Block.{isBlock};
-ghost use Rattle.blocks.specs.Colouring.{Colouring, colour, colourWord, paint, toGrey, toBlack, greyWhite, allocatedColour, isAllocated, freshColours};
+ghost use Rattle.blocks.specs.Colouring.{Colouring, colour, colourWord, paint, toGrey, toBlack, greyWhite, allocatedColour, freeColour, isAllocated, freshColours};
 ghost use Rattle.blocks.specs.Tests.{if_then_else_};
 
 // The colour words that are no link.
@@ -78,6 +80,19 @@ pub fn allocated_colour(c: Colour) -> bool
         Colour::Grey => true,
         Colour::Black => true,
         Colour::Free => false,
+        Colour::Outside => false,
+    }
+}
+
+// Whether a block of the colour is free.
+pub fn free_colour(c: Colour) -> bool
+    ensures { λ r. ⌜ r ≡ freeColour c ⌝ }
+{
+    match c {
+        Colour::White => false,
+        Colour::Grey => false,
+        Colour::Black => false,
+        Colour::Free => true,
         Colour::Outside => false,
     }
 }

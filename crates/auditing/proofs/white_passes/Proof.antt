@@ -1,0 +1,24 @@
+-- `auditing::white_passes` meets its contract. Assumes nothing.
+use Rattle.blocks.proofs.Tests.{so}
+use Rattle.blocks.proofs.Passing.{white-doomed, white-as}
+use borrow.Author.Needs.{needs}
+use Rattle.auditing.proofs.white_passes.Statement.{statement}
+use Rattle.auditing.proofs.white_passes.Tie as tie
+
+doomed-white-requires : tie.Need-doomed-white-requires
+doomed-white-requires c κs = search needs
+
+returns : tie.Need-returns
+returns c = white-doomed _ _ _ _ _ (so (c .before .doomed-white .ensures) (c .if1 .taken))
+
+may-name-all-requires : tie.Need-may-name-all-requires
+may-name-all-requires c κs = search needs
+
+returns-2 : tie.Need-returns-2
+returns-2 c =
+    let c-doomed-white = c .before .before .doomed-white in
+    white-as _ _ _ _ _ _ (so (c-doomed-white .ensures) (c .before .if1 .left)) (c .may-name-all .ensures)
+
+pub white-passes-spec : {M : Type 1} → statement M
+white-passes-spec =
+    tie.close (tie.spec doomed-white-requires returns may-name-all-requires returns-2)

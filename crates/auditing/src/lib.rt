@@ -1,0 +1,158 @@
+// The audit: 1 for a well-formed heap, else 0. It reads each block a fixed number of times and keeps no memory of its own.
+use blocks::Answer;
+use blocks::Colour;
+use blocks::Regs;
+ghost use mathlib.Core.Path.{_≡_};
+ghost use mathlib.Core.List.{List};
+ghost use Prim.Native.Nat.{ℕ, _≤_};
+ghost use lib.ListN.{length};
+ghost use Rattle.blocks.specs.declared.Regs.{Regs};
+ghost use Rattle.blocks.specs.declared.Colour.the-variants.{White, Grey, Black, Free};
+ghost use Rattle.blocks.specs.WellFormed.{Block};
+ghost use Rattle.blocks.specs.Heap.{heap};
+ghost use Rattle.blocks.specs.Ready.{Ready};
+ghost use Rattle.blocks.specs.Audit.{allFrom, zeroFrom, mayBeBlack, colourPasses, blockPasses, passes, audit};
+
+// Whether words 1 to 7 are 0.
+fn zeroes(part: &[u32]) -> bool
+    requires { ⌜ length (now part) ≡ 8 ⌝ }
+    ensures { λ t. ⌜ t ≡ zeroFrom 7 1 (now (part .entry)) ⌝ }
+{
+    let mut w = 1;
+    while w < 8 {
+        if part[w] == 0 {
+            w += 1;
+        } else {
+            return false;
+        }
+    }
+    true
+}
+
+// Whether the block b may be black.
+fn may_be_black(r: Regs, b: u32) -> bool
+    ensures { λ t. ⌜ t ≡ mayBeBlack r b ⌝ }
+{
+    r.phase == 1 || (r.phase == 2 && r.position <= b)
+}
+
+// Whether the white block b passes.
+fn white_passes(r: Regs, colours: &[u32], part: &[u32], byte: u8, b: u32) -> bool
+    requires { ⌜ (r .blocks ≤ 16384) × (length (now colours) ≡ r .blocks) × (length (now part) ≡ 8) ⌝ }
+    ensures { λ t. ⌜ t ≡ colourPasses r (now (colours .entry)) (now (part .entry)) byte b White ⌝ }
+{
+    if checks::doomed_white(r, b) {
+        return true;
+    }
+    naming::may_name_all(r, colours, false, part, byte)
+}
+
+// Whether the grey block b passes.
+fn grey_passes(r: Regs, colours: &[u32], part: &[u32], byte: u8, b: u32) -> bool
+    requires { ⌜ (r .blocks ≤ 16384) × (length (now colours) ≡ r .blocks) × (length (now part) ≡ 8) ⌝ }
+    ensures { λ t. ⌜ t ≡ colourPasses r (now (colours .entry)) (now (part .entry)) byte b Grey ⌝ }
+{
+    if r.phase == 1 {
+        return naming::may_name_all(r, colours, false, part, byte);
+    }
+    false
+}
+
+// Whether the black block b passes.
+fn black_passes(r: Regs, colours: &[u32], part: &[u32], byte: u8, b: u32) -> bool
+    requires { ⌜ (r .blocks ≤ 16384) × (length (now colours) ≡ r .blocks) × (length (now part) ≡ 8) ⌝ }
+    ensures { λ t. ⌜ t ≡ colourPasses r (now (colours .entry)) (now (part .entry)) byte b Black ⌝ }
+{
+    if may_be_black(r, b) {
+        return naming::may_name_all(r, colours, r.phase == 1, part, byte);
+    }
+    false
+}
+
+// Whether the free block passes: its byte and its words 1 to 7 are 0.
+fn free_passes(part: &[u32], byte: u8) -> bool
+    requires { ⌜ length (now part) ≡ 8 ⌝ }
+    ensures { λ t. ⌜ ((r : Regs) (cs : List ℕ) (b : ℕ) → t ≡ colourPasses r cs (now (part .entry)) byte b Free) ⌝ }
+{
+    if byte == 0 {
+        return zeroes(part);
+    }
+    false
+}
+
+// Whether the block b of colour c passes, whose words are part and whose byte is byte.
+fn colour_passes(r: Regs, colours: &[u32], part: &[u32], byte: u8, b: u32, c: Colour) -> bool
+    requires { ⌜ (r .blocks ≤ 16384) × (length (now colours) ≡ r .blocks) × (length (now part) ≡ 8) ⌝ }
+    ensures { λ t. ⌜ t ≡ colourPasses r (now (colours .entry)) (now (part .entry)) byte b c ⌝ }
+{
+    match c {
+        Colour::White => white_passes(r, colours, part, byte, b),
+        Colour::Grey => grey_passes(r, colours, part, byte, b),
+        Colour::Black => black_passes(r, colours, part, byte, b),
+        Colour::Free => free_passes(part, byte),
+        Colour::Outside => false,
+    }
+}
+
+// Whether the block b passes.
+fn block_passes(r: Regs, words: &[u32], colours: &[u32], bytes: &[u8], b: u32) -> bool
+    requires { ⌜ Ready (heap r (now words) (now colours) (now bytes)) × Block (r .blocks) b ⌝ }
+    ensures { λ t. ⌜ t ≡ blockPasses (heap r (now (words .entry)) (now (colours .entry)) (now (bytes .entry))) b ⌝ }
+{
+    let i = b as usize - 2;
+    let at = 8 * i;
+    let end = at + 8;
+    let c = colours::colour(r.blocks, colours::word_of(colours, b));
+    colour_passes(r, colours, &words[at..end], bytes[i], b, c)
+}
+
+// Whether every block passes.
+fn blocks_pass(r: Regs, words: &[u32], colours: &[u32], bytes: &[u8]) -> bool
+    requires { ⌜ Ready (heap r (now words) (now colours) (now bytes)) ⌝ }
+    ensures { λ t. ⌜ t ≡ allFrom (blockPasses (heap r (now (words .entry)) (now (colours .entry)) (now (bytes .entry)))) (r .blocks) 2 ⌝ }
+{
+    let m = r.blocks;
+    let mut b = 2;
+    while b <= m + 1 {
+        if block_passes(r, words, colours, bytes, b) {
+            b += 1;
+        } else {
+            return false;
+        }
+    }
+    true
+}
+
+// Whether the heap is well-formed.
+fn passes(r: Regs, words: &[u32], colours: &[u32], bytes: &[u8]) -> bool
+    ensures { λ t. ⌜ t ≡ passes (heap r (now (words .entry)) (now (colours .entry)) (now (bytes .entry))) ⌝ }
+{
+    if checks::entry(r, words, colours, bytes) == 0 {
+        if colours::layout::layout_passes(r.blocks, r.grey, colours) {
+            if blocks_pass(r, words, colours, bytes) {
+                if naming::may_name(r, colours, r.phase == 1, r.root) {
+                    return walks::frees_pass(r, words, colours);
+                }
+            }
+        }
+    }
+    false
+}
+
+// Audit: 1 for a well-formed heap, else 0. It never refuses and changes nothing.
+pub fn audit(r: Regs, words: &[u32], colours: &[u32], bytes: &[u8]) -> Answer
+    ensures { λ x. ⌜ (record { answer = x; heap = heap r (now (words .exit)) (now (colours .exit)) (now (bytes .exit)) }) ≡ audit (heap r (now (words .entry)) (now (colours .entry)) (now (bytes .entry))) ⌝ }
+{
+    if passes(r, words, colours, bytes) {
+        return Answer {
+            refusal: 0,
+            value: 1,
+            units: 0,
+        };
+    }
+    Answer {
+        refusal: 0,
+        value: 0,
+        units: 0,
+    }
+}

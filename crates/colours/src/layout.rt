@@ -1,0 +1,126 @@
+// The audit's part on the colour layout: every colour is legal, and the grey list has exactly the grey blocks.
+use super::colour;
+use super::is_block;
+use super::word_of;
+use blocks::Colour;
+ghost use mathlib.Core.Path.{_≡_};
+ghost use Prim.Native.Nat.{_≤_};
+ghost use lib.ListN.{length};
+ghost use Rattle.blocks.specs.Tests.{if_then_else_};
+ghost use Rattle.blocks.specs.WellFormed.{Block};
+ghost use Rattle.blocks.specs.Colouring.{Colouring, colourWord};
+ghost use Rattle.blocks.specs.Audit.{allFrom, countFrom, walk, legalColour, greyColour, isLegal, isGrey, layoutPasses};
+
+// Whether the colour is legal.
+pub fn legal_colour(c: Colour) -> bool
+    ensures { λ r. ⌜ r ≡ legalColour c ⌝ }
+{
+    match c {
+        Colour::White => true,
+        Colour::Grey => true,
+        Colour::Black => true,
+        Colour::Free => true,
+        Colour::Outside => false,
+    }
+}
+
+// Whether the colour is grey.
+pub fn grey_colour(c: Colour) -> bool
+    ensures { λ r. ⌜ r ≡ greyColour c ⌝ }
+{
+    match c {
+        Colour::White => false,
+        Colour::Grey => true,
+        Colour::Black => false,
+        Colour::Free => false,
+        Colour::Outside => false,
+    }
+}
+
+// Whether the colour of the block b is legal.
+pub fn is_legal(m: u32, colours: &[u32], b: u32) -> bool
+    requires { ⌜ (m ≤ 16384) × Block (length (now colours)) b ⌝ }
+    ensures { λ r. ⌜ r ≡ isLegal m (now (colours .entry)) b ⌝ }
+{
+    legal_colour(colour(m, word_of(colours, b)))
+}
+
+// Whether b is a grey block.
+pub fn is_grey(m: u32, colours: &[u32], b: u32) -> bool
+    requires { ⌜ (m ≤ 16384) × (length (now colours) ≡ m) ⌝ }
+    ensures { λ r. ⌜ r ≡ isGrey m (now (colours .entry)) b ⌝ }
+{
+    if is_block(m, b) {
+        return grey_colour(colour(m, word_of(colours, b)));
+    }
+    false
+}
+
+// Whether every block's colour is legal.
+pub fn all_legal(m: u32, colours: &[u32]) -> bool
+    requires { ⌜ (m ≤ 16384) × (length (now colours) ≡ m) ⌝ }
+    ensures { λ r. ⌜ r ≡ allFrom (isLegal m (now (colours .entry))) m 2 ⌝ }
+{
+    let mut b = 2;
+    while b <= m + 1 {
+        if is_legal(m, colours, b) {
+            b += 1;
+        } else {
+            return false;
+        }
+    }
+    true
+}
+
+// What a block adds to a count of blocks: 1 where it is counted.
+pub fn one(counted: bool) -> u32
+    ensures { λ r. ⌜ r ≡ (if counted then 1 else 0) ⌝ }
+{
+    if counted {
+        return 1;
+    }
+    0
+}
+
+// The number of grey blocks.
+pub fn count_greys(m: u32, colours: &[u32]) -> u32
+    requires { ⌜ (m ≤ 16384) × (length (now colours) ≡ m) ⌝ }
+    ensures { λ r. ⌜ r ≡ countFrom (isGrey m (now (colours .entry))) m 2 ⌝ }
+{
+    let mut n = 0;
+    let mut b = 2;
+    while b <= m + 1 {
+        n += one(is_grey(m, colours, b));
+        b += 1;
+    }
+    n
+}
+
+// Whether n steps along the grey list from head on meet only grey blocks and lead to its end.
+pub fn walk_greys(m: u32, colours: &[u32], head: u32, n: u32) -> bool
+    requires { ⌜ (m ≤ 16384) × (length (now colours) ≡ m) ⌝ }
+    ensures { λ r. ⌜ r ≡ walk (isGrey m (now (colours .entry))) (colourWord (now (colours .entry))) 1 n head ⌝ }
+{
+    let mut a = head;
+    let mut left = n;
+    while left > 0 {
+        if is_grey(m, colours, a) {
+            a = word_of(colours, a);
+            left -= 1;
+        } else {
+            return false;
+        }
+    }
+    a == 1
+}
+
+// Whether the colours are legal and the grey list that starts at head has exactly the grey blocks.
+pub fn layout_passes(m: u32, head: u32, colours: &[u32]) -> bool
+    requires { ⌜ (m ≤ 16384) × (length (now colours) ≡ m) ⌝ }
+    ensures { λ r. ⌜ r ≡ layoutPasses m (record { head = head; cells = now (colours .entry) }) ⌝ }
+{
+    if all_legal(m, colours) {
+        return walk_greys(m, colours, head, count_greys(m, colours));
+    }
+    false
+}

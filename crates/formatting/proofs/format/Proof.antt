@@ -1,0 +1,60 @@
+-- `formatting::format` meets its contract. Assumes nothing.
+use Rattle.blocks.proofs.Tests.{so}
+use Rattle.blocks.proofs.Formats.{fits-parts, format-done, format-not}
+use borrow.Author.Needs.{needs}
+use Rattle.formatting.proofs.format.Statement.{statement}
+use Rattle.formatting.proofs.format.Tie as tie
+use Rattle.colours.proofs.fresh.Reads as fresh-reads′
+
+fits-requires : tie.Need-fits-requires
+fits-requires c κs = search needs
+
+link-all-requires : tie.Need-link-all-requires
+link-all-requires c κs =
+    let c-fits2 = c .before .before .fits2 in
+    let p = fits-parts _ _ _ _ _ (so (c-fits2 .ensures) (c .before .if1 .taken)) in (p .0, p .1)
+
+fresh-requires : tie.Need-fresh-requires
+fresh-requires c κs = search needs
+
+fresh-requires-2 : tie.Need-fresh-requires-2
+fresh-requires-2 c κs = search needs
+
+fresh-regs-requires : tie.Need-fresh-regs-requires
+fresh-regs-requires c κs = search needs
+
+same-length : tie.Need-same-length
+same-length c = search needs
+
+same-length-2 : tie.Need-same-length-2
+same-length-2 c = search needs
+
+same-length-3 : tie.Need-same-length-3
+same-length-3 c = search needs
+
+returns : tie.Need-returns
+returns c =
+    let c-fits2 = c .before .before .before .before .before .before .before .before .before .before .before .before .before .before .fits2 in
+    let c-if1 = c .before .before .before .before .before .before .before .before .before .before .before .before .before .if1 in
+    let c-link-all = c .before .before .before .before .before .before .before .before .before .before .before .link-all in
+    let c-fresh = c .before .before .before .before .before .before .before .fresh in
+    let c-fresh2 = c .before .before .before .fresh2 in
+    format-done _ _ _ _ _ _ _ (so (c-fits2 .ensures) (c-if1 .taken)) (c .fresh-regs .ensures) (c-link-all .ensures) (c-fresh .ensures) (c-fresh2 .ensures)
+
+returns-2 : tie.Need-returns-2
+returns-2 c = format-not _ _ _ (so (c .before .fits2 .ensures) (c .if1 .left))
+
+pub format-spec : {M : Type 1} → statement M
+format-spec =
+    tie.close
+    (tie.spec
+    fits-requires
+    link-all-requires
+    fresh-requires
+    fresh-requires-2
+    fresh-regs-requires
+    same-length
+    same-length-2
+    same-length-3
+    returns
+    returns-2)

@@ -1,0 +1,91 @@
+// Format: every block free, in rising order, and fresh registers.
+use blocks::Answer;
+use blocks::Outcome;
+use blocks::Regs;
+ghost use mathlib.Core.Path.{_≡_};
+ghost use Prim.Native.Nat.{_+_, _*_, _≤_};
+ghost use lib.Dec.{eqb};
+ghost use lib.ListN.{length};
+ghost use Rattle.blocks.specs.Tests.{if_then_else_};
+ghost use Rattle.blocks.specs.Registers.{freshRegs};
+ghost use Rattle.blocks.specs.Heap.{heap};
+ghost use Rattle.blocks.specs.Answers.{given};
+ghost use Rattle.blocks.specs.Format.{freeList, format};
+
+// The link of the free block b that is followed by as many blocks as are left: the next block, or 0.
+fn link(left: u32, b: u32) -> u32
+    requires { ⌜ b ≤ 16385 ⌝ }
+    ensures { λ r. ⌜ r ≡ (if eqb left 0 then 0 else b + 1) ⌝ }
+{
+    if left == 0 {
+        return 0;
+    }
+    b + 1
+}
+
+// The words of m free blocks, linked in rising order.
+fn link_all(words: &mut [u32], m: u32)
+    requires { ⌜ (m ≤ 16384) × (length (now words) ≡ 8 * m) ⌝ }
+    ensures { λ _. ⌜ now (words .exit) ≡ freeList m 2 ⌝ }
+{
+    let mut b = 2;
+    let mut left = m;
+    while left > 0 {
+        left -= 1;
+        let at = 8 * (b as usize - 2);
+        let end = at + 8;
+        cells::clear(&mut words[at..end], link(left, b));
+        b += 1;
+    }
+}
+
+// The registers of a fresh heap of m blocks with pace u.
+fn fresh_regs(r: Regs, m: u32, u: u32) -> Regs
+    ensures { λ x. ⌜ x ≡ freshRegs m u ⌝ }
+{
+    let mut s = r;
+    s.blocks = m;
+    s.pace = u;
+    s.phase = 0;
+    s.grey = 1;
+    s.free = 2;
+    s.count = m;
+    s.position = 0;
+    s.root = 0;
+    s.cycle = 0;
+    s
+}
+
+// Format (M, U), or refusal 1.
+pub fn format(
+    r: Regs,
+    words: &mut [u32],
+    colours: &mut [u32],
+    bytes: &mut [u8],
+    m: u32,
+    u: u32,
+) -> Outcome
+    ensures { λ o. ⌜ given o (now (words .exit)) (now (colours .exit)) (now (bytes .exit)) ≡ format m u (heap r (now (words .entry)) (now (colours .entry)) (now (bytes .entry))) ⌝ }
+{
+    if checks::fits(m, u, words.len(), colours.len(), bytes.len()) {
+        link_all(words, m);
+        colours::fresh(colours);
+        cells::fresh(bytes);
+        return Outcome {
+            regs: fresh_regs(r, m, u),
+            answer: Answer {
+                refusal: 0,
+                value: 0,
+                units: 0,
+            },
+        };
+    }
+    Outcome {
+        regs: r,
+        answer: Answer {
+            refusal: 1,
+            value: 0,
+            units: 0,
+        },
+    }
+}
