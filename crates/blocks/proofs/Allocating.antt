@@ -10,20 +10,19 @@
 --     damaged-ends, undamaged           units that met damage, and units that met none
 --     allocate-refused, allocate-off, allocate-goes     the call
 -- Assumes nothing.
-use Prim.Native.Nat.{ℕ, _+_, _-_, _*_, _/_, max, _≤_, _<_}
+use Prim.Native.Nat.{ℕ, _-_, _*_, _/_, max, _≤_, _<_}
 use mathlib.Core.Path.{_≡_, refl, sym, _∙_, ap}
 use mathlib.Core.Logic.{_≢_}
-use mathlib.Core.Bool.{Bool, true, false, _&&_}
+use mathlib.Core.Bool.{Bool, true, false}
 use mathlib.Core.List.{List}
 use native.Mathlib.Nat.{add-zero}
 use native.Mathlib.Omega.{arith}
-use lib.Dec.{eqb}
 use lib.ListN.{getD, set}
 use borrow.Author.Tests.{eq-eqb, ne-eqb, le-leb, lt-leb}
 use Rattle.blocks.specs.declared.Regs.{Regs}
 use Rattle.blocks.specs.declared.Colour.{Colour}
-use Rattle.blocks.specs.Tests.{if_then_else_, _▷_}
-use Rattle.blocks.specs.Registers.{idle, marking, sweeping, withFree, withCount, withRoot}
+use Rattle.blocks.specs.Tests.{_▷_}
+use Rattle.blocks.specs.Registers.{marking, sweeping, withFree, withCount, withRoot}
 use Rattle.blocks.specs.Block.{base}
 use Rattle.blocks.specs.Colouring.{white, black, freeColour, colour, colourWord, paint}
 use Rattle.blocks.specs.Heap.{Heap, heap, withRegs}

@@ -3,11 +3,11 @@
 --     block-within, block-as   a block number has its place in a buffer of as many entries
 -- Assumes nothing.
 use Prim.Native.Nat.{ℕ, _+_, _<_, _≤_}
-use mathlib.Core.Path.{_≡_, refl}
+use mathlib.Core.Path.{_≡_}
 use mathlib.Core.Bool.{true, false}
 use native.Mathlib.Omega.{arith}
 use lib.Dec.{leb}
-use borrow.Author.Tests.{leb-true, leb-false, le-leb, lt-leb}
+use borrow.Author.Tests.{leb-true, le-leb, lt-leb}
 use Rattle.blocks.specs.Block.{isBlock}
 use Rattle.blocks.specs.WellFormed.{Block}
 use Rattle.blocks.proofs.Tests.{both-true, both}

@@ -5,16 +5,14 @@
 --     eight-stores             eight words after the stores that free a block
 -- Assumes nothing.
 use Prim.Native.Nat.{ℕ, zero, suc, _+_, _-_, _*_, _/_, _%_, _^_, _≤_, _<_}
-use mathlib.Core.Path.{_≡_, refl, sym, ap}
+use mathlib.Core.Path.{_≡_, refl}
 use mathlib.Core.Bool.{true, false}
 use mathlib.Core.List.{List, [], _∷_}
 use native.Mathlib.Omega.{arith}
-use lib.Dec.{eqb}
-use lib.ListN.{length, getD, set}
+use lib.ListN.{length, set}
 use lib.Seq.{set-getD}
 use borrow.Author.Tests.{eqb-true, eqb-false}
 use Rattle.blocks.specs.Block.{index, byteOf, bit, withBit, withoutBit, setBit, clearBit, freeWords}
-use Rattle.blocks.proofs.Tests.{by-eq}
 
 -- what holds at each of the eight bit numbers holds below 8
 pub below-eight : (P : ℕ → Type 0) → P 0 → P 1 → P 2 → P 3 → P 4 → P 5 → P 6 → P 7 → (w : ℕ) → w < 8 → P w

@@ -1,12 +1,11 @@
 -- No second outcome fits a contract: two things equal to a third are equal.
 --     no-second-outcome        the table of the nine calls
 -- Assumes nothing.
-use mathlib.Core.Path.{_≡_, sym, _∙_, ap}
+use mathlib.Core.Path.{sym, _∙_, ap}
 use mathlib.Core.List.{List}
 use Prim.Native.Nat.{ℕ}
-use Rattle.blocks.specs.declared.Outcome.{Outcome}
 use Rattle.blocks.specs.Answers.{Given, ReadGiven}
-use Rattle.blocks.specs.Contracts.{Same, Only, OnlyRead, OnlyAudit, OnlyLook, NoSecondOutcome}
+use Rattle.blocks.specs.Contracts.{Only, OnlyRead, OnlyAudit, OnlyLook, NoSecondOutcome}
 
 only : (g : Given) → Only g
 only g o p ws xs cs ds bs es e f =

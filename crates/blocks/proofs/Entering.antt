@@ -1,11 +1,13 @@
 -- Tests 1 and 2 and the facts that they establish.
 --     entry-ready, ready-entry     refusals 1 and 2 are not given exactly where the heap is Ready
---     first-refusal                how the first of two refusals is found
+--     first-zero                   the first of two refusals is none exactly where both are
+--     choose-zero                  a choice of refusal that refused nothing
+--     none-or-block, block-or-none the test isBlockOrNone and the fact Block
 -- Assumes nothing.
-use Prim.Native.Nat.{ℕ, _+_, _*_, _≤_, _<_}
+use Prim.Native.Nat.{ℕ, _*_, _≤_}
 use mathlib.Core.Path.{_≡_, refl}
-use mathlib.Core.Logic.{_≢_, _⊎_, ⊎-elim}
-use mathlib.Core.Bool.{Bool, true, false, _&&_, _||_}
+use mathlib.Core.Logic.{_≢_, ⊎-elim}
+use mathlib.Core.Bool.{Bool, true, false, _&&_}
 use native.Mathlib.Omega.{arith}
 use lib.Dec.{leb, eqb}
 use lib.ListN.{length}
@@ -19,7 +21,7 @@ use Rattle.blocks.specs.Heap.{Heap}
 use Rattle.blocks.specs.Entry.{numbersFit, lengthsFit, fits, heapFits, isBlockOrNone, positionLegal, legal, entry}
 use Rattle.blocks.specs.WellFormed.{Block}
 use Rattle.blocks.specs.Ready.{Ready}
-use Rattle.blocks.proofs.Tests.{both-true, both, either-true, by-test, by-eq, clash}
+use Rattle.blocks.proofs.Tests.{both-true, both, either-true, by-eq, clash}
 use Rattle.blocks.proofs.Blocks.{isBlock-block, block-isBlock}
 
 -- the first of two refusals is 0 exactly where both are
@@ -30,14 +32,6 @@ first-zero a b = go (eqb a 0) refl
     go : (t : Bool) → eqb a 0 ≡ t → (if t then b else a) ≡ 0 → (a ≡ 0) × (b ≡ 0)
     go true e z = (eqb-true a 0 e, z)
     go false e z = clash (eq-eqb a 0 z) e
-
-pub then-next : (a b : ℕ) → a ≡ 0 → b ≡ a ▷ b
-unfolding _▷_
-then-next a b z = simp (eq-eqb a 0 z)
-
-pub then-stop : (a b : ℕ) → a ≢ 0 → a ≡ a ▷ b
-unfolding _▷_
-then-stop a b n = simp (ne-eqb a 0 n)
 
 pub choose-zero : (t : Bool) (n : ℕ) → n ≢ 0 → (if t then 0 else n) ≡ 0 → t ≡ true
 choose-zero true n ne e = refl

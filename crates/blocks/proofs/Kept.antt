@@ -2,32 +2,28 @@
 --     greyAll-kept             greying keeps a legal grey head and the buffer's length
 --     unit-kept, done-kept, run-kept, ran-kept     a unit, and units in a row, leave a Ready heap Ready
 -- Assumes nothing.
-use Prim.Native.Nat.{ℕ, zero, suc, _+_, _*_, _≤_, _<_}
+use Prim.Native.Nat.{ℕ, zero, suc, _+_, _*_}
 use mathlib.Core.Path.{_≡_, refl, sym, _∙_, ap, subst}
-use mathlib.Core.Logic.{_≢_, ⊎-elim}
+use mathlib.Core.Logic.{_≢_}
 use mathlib.Core.Bool.{Bool, true, false, _&&_, _||_}
-use mathlib.Core.List.{List, [], _∷_, _++_}
+use mathlib.Core.List.{List, [], _∷_}
 use native.Mathlib.Omega.{arith}
 use lib.Dec.{eqb, leb}
-use lib.ListN.{length, take, drop, length-set, length-append, length-take, length-drop}
-use borrow.Author.Tests.{eq-eqb, ne-eqb, eqb-true, eqb-false, le-leb}
+use lib.ListN.{length, length-set, length-append, length-take, length-drop}
+use borrow.Author.Tests.{eq-eqb, ne-eqb, eqb-false, le-leb}
 use Rattle.blocks.specs.declared.Regs.{Regs}
-use Rattle.blocks.specs.declared.Colour.{Colour}
-use Rattle.blocks.specs.declared.Colour.the-variants.{White, Grey, Black, Free, Outside}
-use Rattle.blocks.specs.declared.Step.{Step}
-use Rattle.blocks.specs.declared.Step.the-variants.{Begin, Mark, Turn, Reclaim, Whiten, Pass, Damage}
+use Rattle.blocks.specs.declared.Colour.the-variants.{Grey}
 use Rattle.blocks.specs.declared.Progress.{Progress}
 use Rattle.blocks.specs.declared.Progress.the-variants.{Done}
-use Rattle.blocks.specs.Tests.{if_then_else_}
-use Rattle.blocks.specs.Registers.{idle, marking, sweeping, withPhase, withGrey, withFree, withCount, withPosition, withCycle, nextCycle, sweepEnd}
-use Rattle.blocks.specs.Block.{isBlock, base, withEight, freeWords, clearByte}
-use Rattle.blocks.specs.Colouring.{Colouring, white, black, freed, colour, colourWord, paint, toGrey, toBlack, greyWhite, greyAll, headLegal}
+use Rattle.blocks.specs.Registers.{idle, marking, sweeping, withPhase, withFree, withCount, withCycle, nextCycle, sweepEnd}
+use Rattle.blocks.specs.Block.{isBlock, withEight, freeWords, clearByte}
+use Rattle.blocks.specs.Colouring.{Colouring, white, black, freed, colour, colourWord, paint, toBlack, greyWhite, greyAll, headLegal}
 use Rattle.blocks.specs.Heap.{Heap, heap, colouring, withRegs, withColours, withColouring, referencesOf}
 use Rattle.blocks.specs.WellFormed.{Block}
 use Rattle.blocks.specs.Ready.{Ready}
-use Rattle.blocks.specs.OneUnit.{UnitEnd, markStep, step, metBlock, metWord, begun, marked, allSound, turned, advance, reclaimed, whitened, passed, act, unit, ended}
+use Rattle.blocks.specs.OneUnit.{UnitEnd, metBlock, metWord, begun, marked, allSound, turned, advance, reclaimed, whitened, passed, act, unit, ended}
 use Rattle.blocks.specs.Units.{RunEnd, run}
-use Rattle.blocks.proofs.Tests.{both-true, by-test, by-eq, clash, if-ind}
+use Rattle.blocks.proofs.Tests.{both-true, by-test, by-eq, if-ind}
 use Rattle.blocks.proofs.Blocks.{isBlock-block, block-isBlock}
 use Rattle.blocks.proofs.Colours.{head-block}
 use Rattle.blocks.proofs.Steps.{never, step-cases}

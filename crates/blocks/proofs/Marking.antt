@@ -18,7 +18,7 @@ use Rattle.blocks.specs.Tests.{if_then_else_}
 use Rattle.blocks.specs.Registers.{withGrey}
 use Rattle.blocks.specs.Block.{bit, byteOf, eightWords, referencesFrom, references}
 use Rattle.blocks.specs.Colouring.{Colouring, toBlack, greyWhite, greyAll}
-use Rattle.blocks.specs.Heap.{Heap, heap}
+use Rattle.blocks.specs.Heap.{heap}
 use Rattle.blocks.specs.OneUnit.{sound, allSound, marked, act, ended}
 
 module _ (part : List ℕ) (byte : ℕ) where

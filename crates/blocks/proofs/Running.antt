@@ -4,7 +4,7 @@
 --     run-whole, run-on, run-stop, run-end     no unit done, a unit finished, a unit that met damage, no unit left
 --     marks-block, sweeps-block     the block that a step is about
 -- Assumes nothing.
-use Prim.Native.Nat.{ℕ, zero, suc, _+_, _-_, _≤_, _<_}
+use Prim.Native.Nat.{ℕ, suc, _+_, _-_, _≤_, _<_}
 use mathlib.Core.Path.{_≡_, refl, sym, _∙_, ap}
 use mathlib.Core.Bool.{true}
 use mathlib.Core.List.{List}
@@ -20,8 +20,8 @@ use Rattle.blocks.specs.Colouring.{white, colourWord}
 use Rattle.blocks.specs.Heap.{Heap, heap}
 use Rattle.blocks.specs.WellFormed.{Block}
 use Rattle.blocks.specs.Ready.{Ready}
-use Rattle.blocks.specs.OneUnit.{UnitEnd, finish, step, metBlock, metWord, act, unit, ended}
-use Rattle.blocks.specs.Units.{RunEnd, stopped, run}
+use Rattle.blocks.specs.OneUnit.{UnitEnd, step, metBlock, metWord, act, unit, ended}
+use Rattle.blocks.specs.Units.{stopped, run}
 use Rattle.blocks.proofs.Colours.{head-block}
 use Rattle.blocks.proofs.Steps.{sweeps, marks-in, sweeps-in}
 

@@ -3,19 +3,18 @@
 --     advance-end, advance-on       the two ways of the position
 --     reclaim-full, reclaim-done    the two ways of freeing
 -- Assumes nothing.
-use Prim.Native.Nat.{ℕ, _+_, _-_}
-use mathlib.Core.Path.{_≡_, refl, sym, _∙_, ap}
+use Prim.Native.Nat.{ℕ, _+_}
+use mathlib.Core.Path.{_≡_, refl, sym, _∙_}
 use mathlib.Core.Logic.{_≢_}
-use mathlib.Core.List.{List, _++_}
-use lib.ListN.{take, drop}
+use mathlib.Core.List.{List}
 use borrow.Author.Tests.{eq-eqb, ne-eqb}
 use Rattle.blocks.specs.declared.Regs.{Regs}
 use Rattle.blocks.specs.declared.Step.the-variants.{Reclaim}
 use Rattle.blocks.specs.declared.Progress.the-variants.{Done, Damaged}
 use Rattle.blocks.specs.Registers.{idle, marking, withPhase, withGrey, withFree, withCount, withPosition, withCycle, nextCycle, sweepEnd}
-use Rattle.blocks.specs.Block.{base, withEight, freeWords, clearByte}
+use Rattle.blocks.specs.Block.{withEight, freeWords, clearByte}
 use Rattle.blocks.specs.Colouring.{Colouring, freed, white, paint, toGrey}
-use Rattle.blocks.specs.Heap.{Heap, heap}
+use Rattle.blocks.specs.Heap.{heap}
 use Rattle.blocks.specs.OneUnit.{begun, advance, reclaimed, whitened, act, ended}
 
 module _ (r : Regs) (ws cs bs : List ℕ) where

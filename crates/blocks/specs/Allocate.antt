@@ -6,16 +6,16 @@
 --     held b w x h         the reference to x stored: in word w of b, or in the root where b is 0
 --     allocate b w h       the call
 -- Assumes nothing.
-use Prim.Native.Nat.{ℕ, _+_, _-_, _*_, _/_, max}
+use Prim.Native.Nat.{ℕ, _-_, _*_, _/_, max}
 use mathlib.Core.Bool.{Bool, _&&_, _||_}
 use lib.Dec.{eqb, leb}
 use lib.ListN.{set}
 use Rattle.blocks.specs.declared.Regs.{Regs}
 use Rattle.blocks.specs.Tests.{if_then_else_, _▷_}
 use Rattle.blocks.specs.Registers.{marking, sweeping, withFree, withCount, withRoot}
-use Rattle.blocks.specs.Block.{isBlock, place, wordOf}
+use Rattle.blocks.specs.Block.{place, wordOf}
 use Rattle.blocks.specs.Colouring.{white, black, freeColour, paint}
-use Rattle.blocks.specs.Heap.{Heap, heap, colouring, withRegs, colourOf}
+use Rattle.blocks.specs.Heap.{Heap, heap, withRegs, colourOf}
 use Rattle.blocks.specs.Standing.{holderRefusal}
 use Rattle.blocks.specs.Entry.{entry, holderPlace, isBlockOrNone}
 use Rattle.blocks.specs.Answers.{Given, answering, unless}

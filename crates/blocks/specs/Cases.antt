@@ -6,15 +6,15 @@
 --     HandChecked          each case shows what document 01 says
 -- Assumes nothing.
 use Prim.Native.Nat.{ℕ, _*_}
-use mathlib.Core.Path.{_≡_, refl}
+use mathlib.Core.Path.{_≡_}
 use mathlib.Core.List.{List, [], _∷_, _++_, map}
 use lib.ListN.{replicate}
-use Rattle.blocks.specs.Registers.{freshRegs, withCount}
+use Rattle.blocks.specs.declared.Regs.{Regs}
+use Rattle.blocks.specs.Registers.{freshRegs}
 use Rattle.blocks.specs.Block.{wordOf}
 use Rattle.blocks.specs.Colouring.{white, black, freed, colourWord}
 use Rattle.blocks.specs.Heap.{Heap, heap}
 use Rattle.blocks.specs.Answers.{Given}
-use Rattle.blocks.specs.Allocate.{unitsDue}
 use Rattle.blocks.specs.Session.{Call, lastOf}
 use Rattle.blocks.specs.Session.Call.{Format, Read, StoreReference, Allocate, Work}
 
@@ -28,18 +28,25 @@ pub record Case : Type 0 where
   pub looked : Given → List ℕ
   pub expected : List ℕ
 
--- what is looked at
+-- on buffers for m blocks, after the calls cs, the call c shows what is expected
+abbrev on : ℕ → List Call → Call → (Given → List ℕ) → List ℕ → Case
+on m cs c look says = record { blocks = m; calls = cs; last = c; looked = look; expected = says }
+
+-- what is looked at: refusal, value and units; registers; the colour and the word 0 of a block
 abbrev answer : Given → List ℕ
 answer g = g .answer .refusal ∷ g .answer .value ∷ g .answer .units ∷ []
 
-abbrev phase : Given → ℕ
-phase g = g .heap .regs .phase
+abbrev units : Given → List ℕ
+units g = g .answer .units ∷ []
 
-abbrev colours : Given → List ℕ
-colours g = g .heap .colours
+abbrev regs : Given → Regs
+regs g = g .heap .regs
 
-abbrev wordZero : ℕ → Given → ℕ
-wordZero b g = wordOf (g .heap .words) b 0
+abbrev colourIn : Given → ℕ → ℕ
+colourIn g b = colourWord (g .heap .colours) b
+
+abbrev wordZeroIn : Given → ℕ → ℕ
+wordZeroIn g b = wordOf (g .heap .words) b 0
 
 -- the calls that several cases start with
 abbrev toCase4 : List Call
@@ -51,28 +58,40 @@ toCase5 = toCase4 ++ StoreReference 2 0 0 ∷ Work 4 ∷ []
 abbrev pub table : List Case
 table =
     -- 1. Format(3, 1): colours all free; words 0 of the blocks 3, 4, 0.
-    record { blocks = 3; calls = []; last = Format 3 1; looked = λ g. colours g ++ wordZero 2 g ∷ wordZero 3 g ∷ wordZero 4 g ∷ []; expected = freed ∷ freed ∷ freed ∷ 3 ∷ 4 ∷ 0 ∷ [] }
+    on 3 [] (Format 3 1)
+    (λ g. g .heap .colours ++ wordZeroIn g 2 ∷ wordZeroIn g 3 ∷ wordZeroIn g 4 ∷ [])
+    (freed ∷ freed ∷ freed ∷ 3 ∷ 4 ∷ 0 ∷ [])
     -- 2. Then Allocate at root: 1 unit; block 2, black; root 2, phase 1, cycle 1.
-    ∷ record { blocks = 3; calls = Format 3 1 ∷ []; last = Allocate 0 0; looked = λ g. answer g ++ colourWord (g .heap .colours) 2 ∷ g .heap .regs .root ∷ phase g ∷ g .heap .regs .cycle ∷ []; expected = 0 ∷ 2 ∷ 1 ∷ black ∷ 2 ∷ 1 ∷ 1 ∷ [] }
+    ∷ on 3 (Format 3 1 ∷ []) (Allocate 0 0)
+    (λ g. answer g ++ colourIn g 2 ∷ regs g .root ∷ regs g .phase ∷ regs g .cycle ∷ [])
+    (0 ∷ 2 ∷ 1 ∷ black ∷ 2 ∷ 1 ∷ 1 ∷ [])
     -- 3. Then Allocate at (2, 0): 1 unit; block 3, black; phase 2, position 2.
-    ∷ record { blocks = 3; calls = Format 3 1 ∷ Allocate 0 0 ∷ []; last = Allocate 2 0; looked = λ g. answer g ++ colourWord (g .heap .colours) 3 ∷ phase g ∷ g .heap .regs .position ∷ []; expected = 0 ∷ 3 ∷ 1 ∷ black ∷ 2 ∷ 2 ∷ [] }
+    ∷ on 3 (Format 3 1 ∷ Allocate 0 0 ∷ []) (Allocate 2 0)
+    (λ g. answer g ++ colourIn g 3 ∷ regs g .phase ∷ regs g .position ∷ [])
+    (0 ∷ 3 ∷ 1 ∷ black ∷ 2 ∷ 2 ∷ [])
     -- 4. Then Work 3: blocks 2 and 3 white, phase 0. The cycle took 5 units.
-    ∷ record { blocks = 3; calls = Format 3 1 ∷ Allocate 0 0 ∷ Allocate 2 0 ∷ []; last = Work 3; looked = λ g. answer g ++ colours g ++ phase g ∷ []; expected = 0 ∷ 0 ∷ 3 ∷ white ∷ white ∷ freed ∷ 0 ∷ [] }
+    ∷ on 3 (Format 3 1 ∷ Allocate 0 0 ∷ Allocate 2 0 ∷ []) (Work 3)
+    (λ g. answer g ++ colourIn g 2 ∷ colourIn g 3 ∷ regs g .phase ∷ [])
+    (0 ∷ 0 ∷ 3 ∷ white ∷ white ∷ 0 ∷ [])
     -- 5. Then store 0 as reference at (2, 0), Work 4: position 3. Block 3 is doomed: Read answers 5.
-    ∷ record { blocks = 3; calls = toCase4 ++ StoreReference 2 0 0 ∷ []; last = Work 4; looked = λ g. answer g ++ g .heap .regs .position ∷ []; expected = 0 ∷ 0 ∷ 4 ∷ 3 ∷ [] }
-    ∷ record { blocks = 3; calls = toCase5; last = Read 3 0; looked = answer; expected = 5 ∷ 0 ∷ 0 ∷ [] }
+    ∷ on 3 (toCase4 ++ StoreReference 2 0 0 ∷ []) (Work 4) (λ g. answer g ++ regs g .position ∷ []) (0 ∷ 0 ∷ 4 ∷ 3 ∷ [])
+    ∷ on 3 toCase5 (Read 3 0) answer (5 ∷ 0 ∷ 0 ∷ [])
     -- 6. There, a store of target 3 at (2, 1) answers 6.
-    ∷ record { blocks = 3; calls = toCase5; last = StoreReference 2 1 3; looked = answer; expected = 6 ∷ 0 ∷ 0 ∷ [] }
+    ∷ on 3 toCase5 (StoreReference 2 1 3) answer (6 ∷ 0 ∷ 0 ∷ [])
     -- 7. There, Work 1: block 3 is free, its word 0 is 4, free head 3, free count 2. Work 1 more: idle, 6 units in the cycle.
-    ∷ record { blocks = 3; calls = toCase5; last = Work 1; looked = λ g. colourWord (g .heap .colours) 3 ∷ wordZero 3 g ∷ g .heap .regs .free ∷ g .heap .regs .count ∷ []; expected = freed ∷ 4 ∷ 3 ∷ 2 ∷ [] }
-    ∷ record { blocks = 3; calls = toCase5 ++ Work 1 ∷ []; last = Work 1; looked = λ g. answer g ++ phase g ∷ []; expected = 0 ∷ 0 ∷ 1 ∷ 0 ∷ [] }
+    ∷ on 3 toCase5 (Work 1)
+    (λ g. colourIn g 3 ∷ wordZeroIn g 3 ∷ regs g .free ∷ regs g .count ∷ [])
+    (freed ∷ 4 ∷ 3 ∷ 2 ∷ [])
+    ∷ on 3 (toCase5 ++ Work 1 ∷ []) (Work 1) (λ g. answer g ++ regs g .phase ∷ []) (0 ∷ 0 ∷ 1 ∷ 0 ∷ [])
     -- 8. From 4: Work 1, store 0 as reference at (2, 0), Work 1, store reference 3 at (2, 1): 3 has colour 1 and is the grey head.
-    ∷ record { blocks = 3; calls = toCase4 ++ Work 1 ∷ StoreReference 2 0 0 ∷ Work 1 ∷ []; last = StoreReference 2 1 3; looked = λ g. answer g ++ colourWord (g .heap .colours) 3 ∷ g .heap .regs .grey ∷ []; expected = 0 ∷ 0 ∷ 0 ∷ 1 ∷ 3 ∷ [] }
+    ∷ on 3 (toCase4 ++ Work 1 ∷ StoreReference 2 0 0 ∷ Work 1 ∷ []) (StoreReference 2 1 3)
+    (λ g. answer g ++ colourIn g 3 ∷ regs g .grey ∷ [])
+    (0 ∷ 0 ∷ 0 ∷ 1 ∷ 3 ∷ [])
     -- 9. Format(1, 1), Allocate at root, Allocate at (2, 0): 7 with 1 unit, phase 2.
-    ∷ record { blocks = 1; calls = Format 1 1 ∷ Allocate 0 0 ∷ []; last = Allocate 2 0; looked = λ g. answer g ++ phase g ∷ []; expected = 7 ∷ 0 ∷ 1 ∷ 2 ∷ [] }
+    ∷ on 1 (Format 1 1 ∷ Allocate 0 0 ∷ []) (Allocate 2 0) (λ g. answer g ++ regs g .phase ∷ []) (7 ∷ 0 ∷ 1 ∷ 2 ∷ [])
     -- 10. M = 3, U = 0, free count 2: 2 units. Free count 0: 6 units.
-    ∷ record { blocks = 3; calls = Format 3 0 ∷ Allocate 0 0 ∷ []; last = Allocate 2 0; looked = λ g. g .answer .units ∷ []; expected = 2 ∷ [] }
-    ∷ record { blocks = 3; calls = Format 3 0 ∷ Allocate 0 0 ∷ Allocate 2 0 ∷ Allocate 3 0 ∷ []; last = Allocate 4 0; looked = λ g. g .answer .units ∷ []; expected = 6 ∷ [] }
+    ∷ on 3 (Format 3 0 ∷ Allocate 0 0 ∷ []) (Allocate 2 0) units (2 ∷ [])
+    ∷ on 3 (Format 3 0 ∷ Allocate 0 0 ∷ Allocate 2 0 ∷ Allocate 3 0 ∷ []) (Allocate 4 0) units (6 ∷ [])
     ∷ []
 
 abbrev shown : Case → List ℕ

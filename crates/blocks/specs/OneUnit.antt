@@ -20,7 +20,7 @@ use Rattle.blocks.specs.declared.Progress.the-variants.{Done, Damaged}
 use Rattle.blocks.specs.Tests.{if_then_else_}
 use Rattle.blocks.specs.Registers.{idle, marking, sweeping, withPhase, withFree, withCount, withPosition, withCycle, nextCycle, sweepEnd}
 use Rattle.blocks.specs.Block.{isBlock, withEight, freeWords, clearByte}
-use Rattle.blocks.specs.Colouring.{Colouring, white, freed, colour, colourWord, paint, toGrey, toBlack, greyAll, isAllocated}
+use Rattle.blocks.specs.Colouring.{white, freed, colour, colourWord, paint, toGrey, toBlack, greyAll, isAllocated}
 use Rattle.blocks.specs.Heap.{Heap, heap, colouring, withRegs, withColours, withColouring, referencesOf}
 
 pub record UnitEnd : Type 0 where

@@ -1,7 +1,7 @@
 -- What tests 1 and 2 establish, as facts about numbers: what the functions below the calls ask of their caller.
 --     Ready h              the heap h passes tests 1 and 2
 -- Assumes nothing.
-use Prim.Native.Nat.{ℕ, _+_, _*_, _≤_}
+use Prim.Native.Nat.{_*_, _≤_}
 use mathlib.Core.Path.{_≡_}
 use mathlib.Core.Logic.{_≢_}
 use mathlib.Core.Bool.{true}

@@ -1,5 +1,4 @@
 // Format: every block free, in rising order, and fresh registers.
-use blocks::Answer;
 use blocks::Outcome;
 use blocks::Regs;
 ghost use mathlib.Core.Path.{_≡_};
@@ -71,21 +70,7 @@ pub fn format(
         link_all(words, m);
         colours::fresh(colours);
         cells::fresh(bytes);
-        return Outcome {
-            regs: fresh_regs(r, m, u),
-            answer: Answer {
-                refusal: 0,
-                value: 0,
-                units: 0,
-            },
-        };
+        return checks::done(fresh_regs(r, m, u), 0);
     }
-    Outcome {
-        regs: r,
-        answer: Answer {
-            refusal: 1,
-            value: 0,
-            units: 0,
-        },
-    }
+    checks::refused(r, 1)
 }

@@ -1,8 +1,7 @@
 -- `allocating::allocate` meets its contract: a law for each way out. Assumes nothing.
 use Rattle.blocks.proofs.Allocating.{holder-zero, damaged-ends, undamaged, allocate-refused, allocate-off, allocate-goes}
 use Rattle.blocks.proofs.Allocating.{holder-zero, damaged-ends, allocate-refused, allocate-off, allocate-goes}
-use mathlib.Core.Path.{_≡_, refl, sym, _∙_, ap}
-use native.Mathlib.Omega.{arith}
+use mathlib.Core.Path.{sym, _∙_}
 use Rattle.blocks.proofs.Entering.{entry-ready}
 use Rattle.blocks.proofs.Kept.{ran-kept}
 use borrow.Author.Needs.{needs}

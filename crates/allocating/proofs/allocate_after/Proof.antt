@@ -1,10 +1,9 @@
 -- `allocating::allocate_after` meets its contract: a law for each way out. Assumes nothing.
 use Rattle.blocks.proofs.Allocating.{list-zero, take-zero, after-refused, after-done}
-use mathlib.Core.Path.{_≡_, refl, sym, _∙_, ap}
+use mathlib.Core.Path.{sym, _∙_, ap}
 use native.Mathlib.Omega.{arith}
 use Rattle.blocks.proofs.Blocks.{block-as}
 use Rattle.blocks.specs.Allocate.{held}
-use Rattle.blocks.specs.Heap.{Heap}
 use borrow.Author.Needs.{needs}
 use Rattle.allocating.proofs.allocate_after.Statement.{statement}
 use Rattle.allocating.proofs.allocate_after.Tie as tie

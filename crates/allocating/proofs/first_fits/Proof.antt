@@ -1,7 +1,6 @@
 -- `allocating::first_fits` meets its contract. Assumes nothing.
 use Rattle.blocks.proofs.Allocating.{first-link, first-not-free}
-use mathlib.Core.Path.{_≡_, refl, sym, _∙_, ap}
-use native.Mathlib.Omega.{arith}
+use mathlib.Core.Path.{refl}
 use borrow.Author.Needs.{needs}
 use Rattle.allocating.proofs.first_fits.Statement.{statement}
 use Rattle.allocating.proofs.first_fits.Tie as tie

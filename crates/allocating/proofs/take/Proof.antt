@@ -1,6 +1,6 @@
 -- `allocating::take` meets its contract. Assumes nothing.
 use Rattle.blocks.proofs.Allocating.{taken-as}
-use mathlib.Core.Path.{_≡_, refl, sym, _∙_, ap}
+use mathlib.Core.Path.{refl}
 use borrow.Author.Needs.{needs}
 use Rattle.allocating.proofs.take.Statement.{statement}
 use Rattle.allocating.proofs.take.Tie as tie

@@ -1,7 +1,6 @@
 -- `allocating::take_refusal` meets its contract. Assumes nothing.
 use Rattle.blocks.proofs.Allocating.{take-none, take-stops, take-passes}
 use Rattle.blocks.proofs.Blocks.{block-as}
-use borrow.Author.Needs.{needs}
 use Rattle.allocating.proofs.take_refusal.Statement.{statement}
 use Rattle.allocating.proofs.take_refusal.Tie as tie
 

@@ -1,5 +1,5 @@
 -- `cells::clear_bit` meets its contract. Assumes nothing.
-use Rattle.blocks.proofs.Bytes.{set-fits, bit-set, bit-was-set, clear-fits, bit-cleared, bit-was-clear}
+use Rattle.blocks.proofs.Bytes.{clear-fits, bit-cleared, bit-was-clear}
 use Rattle.blocks.proofs.Tests.{so}
 use Rattle.blocks.proofs.Bytes.{clear-fits, bit-cleared, bit-was-clear}
 use borrow.Author.Needs.{needs}

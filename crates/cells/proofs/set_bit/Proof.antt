@@ -1,6 +1,6 @@
 -- `cells::set_bit` meets its contract. Assumes nothing.
 use Rattle.blocks.proofs.Tests.{so}
-use Rattle.blocks.proofs.Bytes.{set-fits, bit-set, bit-was-set, clear-fits, bit-cleared, bit-was-clear}
+use Rattle.blocks.proofs.Bytes.{set-fits, bit-set, bit-was-set}
 use Prim.Native.Nat.{_-_}
 use borrow.Author.Needs.{needs}
 use Rattle.cells.proofs.set_bit.Statement.{statement}

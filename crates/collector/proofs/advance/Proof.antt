@@ -1,5 +1,5 @@
 -- `collector::advance` meets its contract. Assumes nothing.
-use Rattle.blocks.proofs.Sweeping.{begin-empty, begin-root, advance-end, advance-on, reclaim-full, reclaim-done, whiten-done}
+use Rattle.blocks.proofs.Sweeping.{advance-end, advance-on}
 use borrow.Author.Needs.{needs}
 use Rattle.collector.proofs.advance.Statement.{statement}
 use Rattle.collector.proofs.advance.Tie as tie

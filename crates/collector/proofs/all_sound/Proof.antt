@@ -1,12 +1,9 @@
 -- `collector::all_sound` meets its contract: what remains to be tested decides. Assumes nothing.
-use Prim.Native.Nat.{_≤_, _-_, _+_}
-use mathlib.Core.Path.{_≡_, refl, sym, _∙_, ap}
-use borrow.Author.Needs.{needs}
+use Prim.Native.Nat.{_≤_, _-_}
+use mathlib.Core.Path.{_≡_, refl, sym, _∙_}
 use native.Mathlib.Omega.{arith}
-use Rattle.blocks.proofs.Marking.{from, sound-on, sound-off, sound-end, grey-on, grey-end}
-use lib.ListN.{length}
+use Rattle.blocks.proofs.Marking.{from, sound-on, sound-off, sound-end}
 use Rattle.blocks.specs.Block.{references}
-use Rattle.blocks.specs.Colouring.{Colouring, greyAll}
 use Rattle.blocks.specs.OneUnit.{allSound}
 use Rattle.collector.proofs.all_sound.Statement.{statement}
 use Rattle.collector.proofs.all_sound.Tie as tie

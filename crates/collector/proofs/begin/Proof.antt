@@ -1,5 +1,5 @@
 -- `collector::begin` meets its contract. Assumes nothing.
-use Rattle.blocks.proofs.Sweeping.{begin-empty, begin-root, advance-end, advance-on, reclaim-full, reclaim-done, whiten-done}
+use Rattle.blocks.proofs.Sweeping.{begin-empty, begin-root}
 use borrow.Author.Needs.{needs}
 use Rattle.collector.proofs.begin.Statement.{statement}
 use Rattle.collector.proofs.begin.Tie as tie

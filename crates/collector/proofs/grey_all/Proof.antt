@@ -1,13 +1,11 @@
 -- `collector::grey_all` meets its contract: what is greyed is what remains to be greyed. Assumes nothing.
-use Prim.Native.Nat.{_≤_, _-_, _+_}
-use mathlib.Core.Path.{_≡_, refl, sym, _∙_, ap}
-use borrow.Author.Needs.{needs}
+use Prim.Native.Nat.{_≤_, _-_}
+use mathlib.Core.Path.{_≡_, refl, sym, _∙_}
 use native.Mathlib.Omega.{arith}
-use Rattle.blocks.proofs.Marking.{from, sound-on, sound-off, sound-end, grey-on, grey-end}
+use Rattle.blocks.proofs.Marking.{from, grey-on, grey-end}
 use lib.ListN.{length}
 use Rattle.blocks.specs.Block.{references}
-use Rattle.blocks.specs.Colouring.{Colouring, greyAll}
-use Rattle.blocks.specs.OneUnit.{allSound}
+use Rattle.blocks.specs.Colouring.{greyAll}
 use Rattle.collector.proofs.grey_all.Statement.{statement}
 use Rattle.collector.proofs.grey_all.Tie as tie
 

@@ -1,5 +1,5 @@
 -- `collector::grey_word` meets its contract. Assumes nothing.
-use mathlib.Core.Path.{_≡_, refl, sym, _∙_, ap}
+use mathlib.Core.Path.{sym, _∙_}
 use Rattle.blocks.proofs.Tests.{so, if-true, if-false}
 use borrow.Author.Needs.{needs}
 use Rattle.collector.proofs.grey_word.Statement.{statement}

@@ -1,7 +1,6 @@
 -- `collector::mark` meets its contract: a law of marking for each way out. Assumes nothing.
-use mathlib.Core.Path.{_≡_, refl, sym, _∙_, ap}
 use Rattle.blocks.proofs.Marking.{mark-done, mark-damaged}
-use Rattle.blocks.proofs.Parts.{part-is, part-length, back-is}
+use Rattle.blocks.proofs.Parts.{part-is}
 use borrow.Author.Needs.{needs}
 use Rattle.collector.proofs.mark.Statement.{statement}
 use Rattle.collector.proofs.mark.Tie as tie

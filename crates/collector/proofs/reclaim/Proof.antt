@@ -1,6 +1,6 @@
 -- `collector::reclaim` meets its contract. Assumes nothing.
-use Rattle.blocks.proofs.Sweeping.{begin-empty, begin-root, advance-end, advance-on, reclaim-full, reclaim-done, whiten-done}
-use Rattle.blocks.proofs.Parts.{part-is, part-length, back-is}
+use Rattle.blocks.proofs.Sweeping.{reclaim-full, reclaim-done}
+use Rattle.blocks.proofs.Parts.{back-is}
 use borrow.Author.Needs.{needs}
 use Rattle.collector.proofs.reclaim.Statement.{statement}
 use Rattle.collector.proofs.reclaim.Tie as tie

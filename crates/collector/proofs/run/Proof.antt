@@ -1,8 +1,8 @@
 -- `collector::run` meets its contract: the whole run is what remains of it. Assumes nothing.
 use Rattle.blocks.proofs.Running.{run-whole, run-on, run-stop, run-end}
 use Rattle.blocks.proofs.Kept.{done-kept}
-use Prim.Native.Nat.{_≤_, _-_, _+_}
-use mathlib.Core.Path.{_≡_, refl, sym, _∙_, ap}
+use Prim.Native.Nat.{_≤_, _-_}
+use mathlib.Core.Path.{_≡_, refl, sym, _∙_}
 use borrow.Author.Needs.{needs}
 use native.Mathlib.Omega.{arith}
 use lib.ListN.{length}
@@ -10,7 +10,6 @@ use Rattle.blocks.specs.Heap.{heap}
 use Rattle.blocks.specs.Ready.{Ready}
 use Rattle.blocks.specs.Units.{run}
 use Rattle.blocks.proofs.Running.{run-on, run-stop, run-end}
-use Rattle.blocks.proofs.Kept.{unit-kept}
 use Rattle.collector.proofs.run.Statement.{statement}
 use Rattle.collector.proofs.run.Tie as tie
 

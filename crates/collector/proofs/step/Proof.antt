@@ -1,5 +1,5 @@
 -- `collector::step` meets its contract: a law of the machine for each way through the match. Assumes nothing.
-use mathlib.Core.Path.{_≡_, refl, sym, _∙_, ap}
+use mathlib.Core.Path.{refl, _∙_}
 use native.Mathlib.Omega.{arith}
 use Rattle.blocks.proofs.Steps.{begins, begins-not, turns, marking-as, sweeping-as, nowhere, high-marks, other-sweeps}
 use Rattle.blocks.proofs.Colours.{is-white, is-black, is-free, is-grey, is-outside}

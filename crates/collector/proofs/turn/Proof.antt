@@ -1,5 +1,5 @@
 -- `collector::turn` meets its contract. Assumes nothing.
-use mathlib.Core.Path.{_≡_, refl, sym, _∙_, ap}
+use mathlib.Core.Path.{refl}
 use Rattle.blocks.specs.OneUnit.{turned}
 use Rattle.collector.proofs.turn.Statement.{statement}
 use Rattle.collector.proofs.turn.Tie as tie

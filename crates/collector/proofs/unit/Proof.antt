@@ -1,12 +1,9 @@
 -- `collector::unit` meets its contract: the step picked, and a law for each arm. Assumes nothing.
 use Rattle.blocks.proofs.Running.{step-met, unit-by, marks-block, sweeps-block}
 use Rattle.blocks.proofs.Blocks.{block-as}
-use mathlib.Core.Path.{_≡_, refl, sym, _∙_, ap}
-use Rattle.blocks.proofs.Running.{step-met, unit-by, run-on, run-stop, run-end}
-use Rattle.blocks.proofs.Steps.{sweeps, marks-in, sweeps-in}
-use native.Mathlib.Omega.{arith}
-use Rattle.blocks.proofs.Colours.{head-block}
-use Rattle.blocks.specs.OneUnit.{UnitEnd, finish, act, ended, passed}
+use mathlib.Core.Path.{refl, ap}
+use Rattle.blocks.proofs.Running.{step-met, unit-by}
+use Rattle.blocks.specs.OneUnit.{finish, act, ended, passed}
 use borrow.Author.Needs.{needs}
 use Rattle.collector.proofs.unit.Statement.{statement}
 use Rattle.collector.proofs.unit.Tie as tie

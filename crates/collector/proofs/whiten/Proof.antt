@@ -1,5 +1,5 @@
 -- `collector::whiten` meets its contract. Assumes nothing.
-use Rattle.blocks.proofs.Sweeping.{begin-empty, begin-root, advance-end, advance-on, reclaim-full, reclaim-done, whiten-done}
+use Rattle.blocks.proofs.Sweeping.{whiten-done}
 use borrow.Author.Needs.{needs}
 use Rattle.collector.proofs.whiten.Statement.{statement}
 use Rattle.collector.proofs.whiten.Tie as tie

@@ -1,7 +1,6 @@
 -- `colours::fresh` meets its contract: the entries passed are free, the others as they were. Assumes nothing.
 use Rattle.blocks.proofs.Lists.{fill-step, fill-end}
-use lib.ListN.{getD}
-use borrow.Author.Fill.{fill-none, fill-more}
+use borrow.Author.Fill.{fill-none}
 use native.Mathlib.Omega.{arith}
 use borrow.Author.Needs.{needs}
 use lib.ListN.{length, replicate, drop, length-set}

@@ -1,8 +1,7 @@
 -- `colours::is_allocated` meets its contract. Assumes nothing.
-use mathlib.Core.Path.{_∙_, sym, ap}
 use Rattle.blocks.proofs.Blocks.{block-within}
 use Rattle.blocks.proofs.Tests.{so}
-use Rattle.blocks.proofs.Colours.{not-a-block, not-white, was-white, allocated-no, allocated-as}
+use Rattle.blocks.proofs.Colours.{allocated-no, allocated-as}
 use borrow.Author.Needs.{needs}
 use Rattle.colours.proofs.is_allocated.Statement.{statement}
 use Rattle.colours.proofs.is_allocated.Tie as tie

@@ -1,6 +1,5 @@
 -- `colours::word_met` meets its contract. Assumes nothing.
-use mathlib.Core.Path.{_∙_, sym, ap}
-use Rattle.blocks.specs.Tests.{if_then_else_}
+use mathlib.Core.Path.{_∙_, sym}
 use Rattle.blocks.proofs.Tests.{so, if-true, if-false}
 use Rattle.blocks.proofs.Tests.{so}
 use Rattle.blocks.proofs.Blocks.{block-within}

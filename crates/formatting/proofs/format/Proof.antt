@@ -1,4 +1,5 @@
--- `formatting::format` meets its contract. Assumes nothing.
+-- `formatting::format` meets its contract: a law for each way out. Assumes nothing.
+use mathlib.Core.Path.{_∙_}
 use Rattle.blocks.proofs.Tests.{so}
 use Rattle.blocks.proofs.Formats.{fits-parts, format-done, format-not}
 use borrow.Author.Needs.{needs}
@@ -23,6 +24,9 @@ fresh-requires-2 c κs = search needs
 fresh-regs-requires : tie.Need-fresh-regs-requires
 fresh-regs-requires c κs = search needs
 
+done-requires : tie.Need-done-requires
+done-requires c κs = search needs
+
 same-length : tie.Need-same-length
 same-length c = search needs
 
@@ -34,15 +38,20 @@ same-length-3 c = search needs
 
 returns : tie.Need-returns
 returns c =
-    let c-fits2 = c .before .before .before .before .before .before .before .before .before .before .before .before .before .before .fits2 in
-    let c-if1 = c .before .before .before .before .before .before .before .before .before .before .before .before .before .if1 in
-    let c-link-all = c .before .before .before .before .before .before .before .before .before .before .before .link-all in
-    let c-fresh = c .before .before .before .before .before .before .before .fresh in
-    let c-fresh2 = c .before .before .before .fresh2 in
-    format-done _ _ _ _ _ _ _ (so (c-fits2 .ensures) (c-if1 .taken)) (c .fresh-regs .ensures) (c-link-all .ensures) (c-fresh .ensures) (c-fresh2 .ensures)
+    let c-fits2 = c .before .before .before .before .before .before .before .before .before .before .before .before .before .before .before .fits2 in
+    let c-if1 = c .before .before .before .before .before .before .before .before .before .before .before .before .before .before .if1 in
+    let c-link-all = c .before .before .before .before .before .before .before .before .before .before .before .before .link-all in
+    let c-fresh = c .before .before .before .before .before .before .before .before .fresh in
+    let c-fresh2 = c .before .before .before .before .fresh2 in
+    c .done .ensures _ _ _ ∙ format-done _ _ _ _ _ _ _ (so (c-fits2 .ensures) (c-if1 .taken)) (c .before .fresh-regs .ensures) (c-link-all .ensures) (c-fresh .ensures) (c-fresh2 .ensures)
+
+refused-requires : tie.Need-refused-requires
+refused-requires c κs = search needs
 
 returns-2 : tie.Need-returns-2
-returns-2 c = format-not _ _ _ (so (c .before .fits2 .ensures) (c .if1 .left))
+returns-2 c =
+    let c-fits2 = c .before .before .fits2 in
+    c .refused .ensures _ _ _ ∙ format-not _ _ _ (so (c-fits2 .ensures) (c .before .if1 .left))
 
 pub format-spec : {M : Type 1} → statement M
 format-spec =
@@ -53,8 +62,10 @@ format-spec =
     fresh-requires
     fresh-requires-2
     fresh-regs-requires
+    done-requires
     same-length
     same-length-2
     same-length-3
     returns
+    refused-requires
     returns-2)

@@ -1,6 +1,5 @@
 -- `working::work` meets its contract: a law for each way out. Assumes nothing.
-use mathlib.Core.Path.{_≡_, refl, sym, _∙_, ap}
-use native.Mathlib.Omega.{arith}
+use mathlib.Core.Path.{sym, _∙_}
 use Rattle.blocks.proofs.Entering.{entry-ready}
 use Rattle.blocks.proofs.Working.{work-refused, work-over, work-done}
 use borrow.Author.Needs.{needs}
