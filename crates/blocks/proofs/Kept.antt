@@ -1,5 +1,9 @@
 -- A unit keeps what tests 1 and 2 ask: legal registers and buffers that fit.
---     greyAll-kept             greying keeps a legal grey head and the buffer's length
+--     head-one, head-of-block, head-elsewhere     legal grey heads: 1, a block while marking, and 1 alone outside it
+--     next-legal               the word of a grey block is a legal grey head
+--     Kept, greyWhite-kept, greyAll-kept     greying keeps a legal grey head and the buffer's length
+--     advance-kept, begun-kept, marked-kept, turned-kept, reclaimed-kept, whitened-kept     each step keeps Ready
+--     met-grey                 while marking, the block met is the grey head
 --     unit-kept, done-kept, run-kept, ran-kept     a unit, and units in a row, leave a Ready heap Ready
 -- Assumes nothing.
 use Prim.Native.Nat.{ℕ, zero, suc, _+_, _*_}
@@ -29,11 +33,11 @@ use Rattle.blocks.proofs.Colours.{head-block}
 use Rattle.blocks.proofs.Steps.{never, step-cases}
 
 -- legal grey heads
-head-one : (m p : ℕ) → headLegal m p 1 ≡ true
+pub head-one : (m p : ℕ) → headLegal m p 1 ≡ true
 unfolding headLegal
 head-one m p = refl
 
-head-of-block : (m b : ℕ) → Block m b → headLegal m marking b ≡ true
+pub head-of-block : (m b : ℕ) → Block m b → headLegal m marking b ≡ true
 unfolding headLegal
 head-of-block m b l = go (eqb b 1)
   where
@@ -41,27 +45,27 @@ head-of-block m b l = go (eqb b 1)
     go true = refl
     go false = block-isBlock m b l
 
-head-elsewhere : (m p g : ℕ) → p ≢ marking → headLegal m p g ≡ true → g ≡ 1
+pub head-elsewhere : (m p g : ℕ) → p ≢ marking → headLegal m p g ≡ true → g ≡ 1
 head-elsewhere m p g n e = by-eq g 1 (λ z. z) (λ o. absurd (n (head-block m p g e o .0)))
 
-record Kept (m n : ℕ) (k : Colouring) : Type 0 where
-  legal : headLegal m marking (k .head) ≡ true
-  same : length (k .cells) ≡ n
+pub record Kept (m n : ℕ) (k : Colouring) : Type 0 where
+  pub legal : headLegal m marking (k .head) ≡ true
+  pub same : length (k .cells) ≡ n
 
-greyWhite-kept : (m b n : ℕ) (k : Colouring) → Kept m n k → Kept m n (greyWhite m b k)
+pub greyWhite-kept : (m b n : ℕ) (k : Colouring) → Kept m n k → Kept m n (greyWhite m b k)
 unfolding greyWhite
 greyWhite-kept m b n k d =
     if-ind (Kept m n) (isBlock m b && eqb (colourWord (k .cells) b) white)
     (λ e. record { legal = head-of-block m b (isBlock-block m b (both-true (isBlock m b) (eqb (colourWord (k .cells) b) white) e .0)); same = simp length-set (d .same) })
     (λ e. d)
 
-greyAll-kept : (m n : ℕ) (bs : List ℕ) (k : Colouring) → Kept m n k → Kept m n (greyAll m bs k)
+pub greyAll-kept : (m n : ℕ) (bs : List ℕ) (k : Colouring) → Kept m n k → Kept m n (greyAll m bs k)
 unfolding greyAll
 greyAll-kept m n [] k d = d
 greyAll-kept m n (b ∷ bs) k d = greyAll-kept m n bs (greyWhite m b k) (greyWhite-kept m b n k d)
 
 -- the word of a grey block is a legal grey head
-next-legal : (m word : ℕ) → colour m word ≡ Grey → headLegal m marking word ≡ true
+pub next-legal : (m word : ℕ) → colour m word ≡ Grey → headLegal m marking word ≡ true
 unfolding colour headLegal isBlock
 next-legal m word e =
     by-eq word white (λ z. never (cc (simp (eq-eqb word white z) at e))) (λ w.
@@ -77,7 +81,7 @@ unfolding withEight
 length-eight m ws b x l e = simp (length-append, length-take, length-drop) (omega arith)
 
 -- the sweep's position goes on, or the sweep ends
-advance-kept : (h : Heap) → Ready h → h .regs .phase ≡ sweeping → Ready (withRegs (advance (h .regs)) h)
+pub advance-kept : (h : Heap) → Ready h → h .regs .phase ≡ sweeping → Ready (withRegs (advance (h .regs)) h)
 unfolding advance
 advance-kept h d s =
     if-ind (λ (r : Regs). Ready (withRegs r h)) (eqb (h .regs .position) (sweepEnd (h .regs)))
@@ -119,7 +123,7 @@ advance-kept h d s =
     off : h .regs .phase ≢ marking
     off z = absurd (omega arith)
 
-begun-kept : (h : Heap) → Ready h → h .regs .phase ≡ idle → Ready (begun h)
+pub begun-kept : (h : Heap) → Ready h → h .regs .phase ≡ idle → Ready (begun h)
 unfolding begun
 begun-kept h d i =
     if-ind (λ (k : Colouring). Ready (withColouring k (withRegs (withPhase marking (withCycle (nextCycle (h .regs .cycle)) (h .regs))) h))) (eqb (h .regs .root) 0)
@@ -162,7 +166,7 @@ begun-kept h d i =
     still : h .regs .phase ≢ sweeping
     still z = absurd (omega arith)
 
-marked-kept : (h : Heap) → Ready h → h .regs .phase ≡ marking → Block (h .regs .blocks) (h .regs .grey) → colour (h .regs .blocks) (colourWord (h .colours) (h .regs .grey)) ≡ Grey → Ready (marked h)
+pub marked-kept : (h : Heap) → Ready h → h .regs .phase ≡ marking → Block (h .regs .blocks) (h .regs .grey) → colour (h .regs .blocks) (colourWord (h .colours) (h .regs .grey)) ≡ Grey → Ready (marked h)
 unfolding marked
 marked-kept h d s l g =
     let k = greyAll-kept (h .regs .blocks) (h .regs .blocks) (referencesOf h (h .regs .grey)) (toBlack (colouring h)) (record { legal = next-legal _ _ g; same = simp length-set (d .colours) }) in
@@ -183,11 +187,11 @@ marked-kept h d s l g =
     }
 
 -- while marking, the block met is the grey head
-met-grey : (h : Heap) → h .regs .phase ≡ marking → Block (h .regs .blocks) (h .regs .grey) → colour (h .regs .blocks) (colourWord (h .colours) (h .regs .grey)) ≡ colour (h .regs .blocks) (metWord h)
+pub met-grey : (h : Heap) → h .regs .phase ≡ marking → Block (h .regs .blocks) (h .regs .grey) → colour (h .regs .blocks) (colourWord (h .colours) (h .regs .grey)) ≡ colour (h .regs .blocks) (metWord h)
 unfolding metWord metBlock
 met-grey h k b = simp (ne-eqb (h .regs .phase) idle (λ z. absurd (omega arith)), eq-eqb (h .regs .phase) marking k, block-isBlock _ _ b)
 
-turned-kept : (h : Heap) → Ready h → h .regs .grey ≡ 1 → Ready (turned h)
+pub turned-kept : (h : Heap) → Ready h → h .regs .grey ≡ 1 → Ready (turned h)
 unfolding turned
 turned-kept h d g =
     let b = d .some in
@@ -207,7 +211,7 @@ turned-kept h d g =
       parked = λ z. absurd (z refl);
     }
 
-reclaimed-kept : (h : Heap) → Ready h → h .regs .phase ≡ sweeping → h .regs .count ≢ h .regs .blocks → Ready (reclaimed h)
+pub reclaimed-kept : (h : Heap) → Ready h → h .regs .phase ≡ sweeping → h .regs .count ≢ h .regs .blocks → Ready (reclaimed h)
 unfolding reclaimed
 reclaimed-kept h d s n =
     let p = d .placed s in
@@ -236,7 +240,7 @@ reclaimed-kept h d s n =
     })
     s
 
-whitened-kept : (h : Heap) → Ready h → h .regs .phase ≡ sweeping → Ready (whitened h)
+pub whitened-kept : (h : Heap) → Ready h → h .regs .phase ≡ sweeping → Ready (whitened h)
 unfolding whitened
 whitened-kept h d s =
     advance-kept (withColours (paint (h .regs .position) white (h .colours)) h)

@@ -1,0 +1,1 @@
+// No code: what the audit's answer means, as theory over the machine's definitions.

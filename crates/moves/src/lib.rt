@@ -1,0 +1,1 @@
+// The abstract collector: moves, what they keep and what they bring about. Theory alone, in specs/.

@@ -1,0 +1,8 @@
+-- The machine's calls are made of moves, and the promises hold of it.
+pub mod Viewing
+pub mod Chains
+pub mod Painting
+pub mod Greys
+pub mod Recolouring
+pub mod MarkingMoves
+pub mod SweepingMoves

@@ -1,0 +1,2 @@
+-- The machine seen as the abstract collector, and the promises about it.
+pub mod View

@@ -1,0 +1,1 @@
+// Reachability and counting over numbered blocks: theory alone, in specs/.
