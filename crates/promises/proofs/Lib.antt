@@ -6,3 +6,7 @@ pub mod Greys
 pub mod Recolouring
 pub mod MarkingMoves
 pub mod SweepingMoves
+pub mod Counts
+pub mod UnitMoves
+pub mod RunMoves
+pub mod FreshHeap

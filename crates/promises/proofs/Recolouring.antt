@@ -1,6 +1,7 @@
 -- A heap that differs in its registers and colours alone, and in which the same blocks are free.
 --     bare, dressed            a grey block of a heap, and of its colour buffer
 --     greys-of, of-greys       the grey list of a heap, and of its colouring
+--     head-listed              the first of a list is one of its blocks
 --     none-listed              a list that is at its end has no block
 --     free-of, of-free         a free block by its tint
 --     recoloured               such a heap has the shape of a well-formed heap
@@ -8,7 +9,7 @@
 use Prim.Native.Nat.{ℕ}
 use mathlib.Core.Path.{_≡_, refl, sym, _∙_, ap, subst}
 use mathlib.Core.Logic.{_≢_, _↔_}
-use mathlib.Core.List.{List, [], List·Memᴰ, List·Memᴰ·not-nil}
+use mathlib.Core.List.{List, [], List·Memᴰ, List·Memᴰ·head, List·Memᴰ·not-nil}
 use lib.ListN.{length}
 use Rattle.blocks.specs.declared.Regs.{Regs}
 use Rattle.blocks.specs.declared.Colour.{Colour}
@@ -76,3 +77,11 @@ module _ (h : Heap) (p : Shape h) (r : Regs) (cs : List ℕ) (blocks : r .blocks
         laid = λ b f. let d = p .laid b (over b f) in record { byte = d .byte; words = d .words };
         counted = ap length (same-blocks (p .frees) (λ x f. refl) (λ x. (over x, back x)) free) ∙ p .counted ∙ sym count;
       }
+
+head-in : {next : ℕ → ℕ} {end a : ℕ} {l : List ℕ} → Listed next end a l → a ≢ end → List·Memᴰ a l
+head-in (ends e) n = absurd (n e)
+head-in (goes m d) n = List·Memᴰ·head refl
+
+-- the first of a list that isn't at its end is one of its blocks
+pub head-listed : {P : ℕ → Type 0} {next : ℕ → ℕ} {end a : ℕ} → Exactly P next end a → a ≢ end → P a
+head-listed {a} e n = e .members a .0 (head-in (e .listed) n)
