@@ -10,3 +10,4 @@ pub mod Counts
 pub mod UnitMoves
 pub mod RunMoves
 pub mod FreshHeap
+pub mod Calls
