@@ -9,6 +9,9 @@
 --     standing-as, holder-as, target-none, target-as     the standing of a block, and the refusals by it
 --     Readable, readable       what a refusal number 0 of Read establishes
 --     word-zero, target-zero, target-within     what a refusal number 0 of wordRefusal and of targetPlace establishes
+--     holder-live, target-live     what a refusal number 0 of holderRefusal and of targetRefusal establishes
+--     within-layout            the standing of a block of legal colour is not Damaged
+--     holder-undamaged, target-undamaged     holderRefusal and targetRefusal give 8 for a Damaged block only
 -- Assumes nothing.
 use Prim.Native.Nat.{ℕ, _≤_, _<_}
 use mathlib.Core.Path.{_≡_, refl, sym, _∙_}
@@ -19,9 +22,9 @@ use lib.Dec.{leb}
 use borrow.Author.Tests.{leb-true, le-leb, lt-leb, eq-eqb, ne-eqb}
 use Rattle.blocks.specs.declared.Regs.{Regs}
 use Rattle.blocks.specs.declared.Colour.{Colour}
-use Rattle.blocks.specs.declared.Colour.the-variants.{White}
+use Rattle.blocks.specs.declared.Colour.the-variants.{White, Grey, Black, Free, Outside}
 use Rattle.blocks.specs.declared.Standing.{Standing}
-use Rattle.blocks.specs.declared.Standing.the-variants.{Live, Gone}
+use Rattle.blocks.specs.declared.Standing.the-variants.{Live, Gone, Damaged}
 use Rattle.blocks.specs.Tests.{_▷_}
 use Rattle.blocks.specs.Block.{isBlock}
 use Rattle.blocks.specs.Colouring.{colour, colourWord}
@@ -31,8 +34,9 @@ use Rattle.blocks.specs.Entry.{numbersFit, lengthsFit, fits, heapFits, i
 use Rattle.blocks.specs.Read.{readRefusal}
 use Rattle.blocks.specs.WellFormed.{Block}
 use Rattle.blocks.specs.Ready.{Ready}
-use Rattle.blocks.proofs.Tests.{both-true}
+use Rattle.blocks.proofs.Tests.{both-true, by-eq, if-ind}
 use Rattle.blocks.proofs.Blocks.{isBlock-block}
+use Rattle.blocks.proofs.Steps.{never}
 use Rattle.blocks.proofs.Entering.{first-zero, choose-zero, entry-ready}
 
 -- n is the number that the first test answered
@@ -151,3 +155,42 @@ readable h b w e =
     let p = first-zero (wordRefusal (h .regs .blocks) b w) (holderRefusal h b) (a .1) in
     let z = word-zero (h .regs .blocks) b w (p .0) in
     record { ready = entry-ready h (a .0); block = z .0; low = z .1 }
+
+-- the refusal by a block's standing
+refused-not : (n : ℕ) (s : Standing) → n ≢ 0 → refusalOf n s ≡ 0 → s ≡ Live
+refused-not n Live z e = refl
+refused-not n Gone z e = absurd (z e)
+refused-not n Damaged z e = absurd (omega arith)
+
+refused-8 : (n : ℕ) (s : Standing) → n ≢ 8 → s ≢ Damaged → refusalOf n s ≢ 8
+refused-8 n Live z d e = absurd (omega arith)
+refused-8 n Gone z d e = z e
+refused-8 n Damaged z d e = d refl
+
+pub within-layout : (r : Regs) (b : ℕ) (c : Colour) → c ≢ Outside → standing r b c ≢ Damaged
+unfolding standing
+within-layout r b White n = if-ind (λ (s : Standing). s ≢ Damaged) (doomedWhite r b) (λ t z. never (cc)) (λ t z. never (cc))
+within-layout r b Grey n = λ z. never (cc)
+within-layout r b Black n = λ z. never (cc)
+within-layout r b Free n = λ z. never (cc)
+within-layout r b Outside n = λ z. n refl
+
+module _ (h : Heap) (b : ℕ) where
+  pub holder-live : holderRefusal h b ≡ 0 → standingOf h b ≡ Live
+  unfolding holderRefusal
+  holder-live e = refused-not 5 (standingOf h b) (omega arith) e
+
+  pub target-live : targetRefusal h b ≡ 0 → b ≢ 0 → standingOf h b ≡ Live
+  unfolding targetRefusal
+  target-live e z = refused-not 6 (standingOf h b) (omega arith) (simp (ne-eqb b 0 z) at e)
+
+  pub holder-undamaged : standingOf h b ≢ Damaged → holderRefusal h b ≢ 8
+  unfolding holderRefusal
+  holder-undamaged d = refused-8 5 (standingOf h b) (omega arith) d
+
+  pub target-undamaged : (b ≢ 0 → standingOf h b ≢ Damaged) → targetRefusal h b ≢ 8
+  unfolding targetRefusal
+  target-undamaged d =
+      by-eq b 0
+      (λ z e. absurd (omega (arith, simp (eq-eqb b 0 z) at e)))
+      (λ z. simp (ne-eqb b 0 z) (refused-8 6 (standingOf h b) (omega arith) (d z)))

@@ -11,3 +11,9 @@ pub mod UnitMoves
 pub mod RunMoves
 pub mod FreshHeap
 pub mod Calls
+pub mod Reaching
+pub mod StoringMoves
+pub mod TakingMoves
+pub mod DeedMoves
+pub mod Courses
+pub mod Keeping

@@ -1,4 +1,5 @@
 -- What a store into a buffer leaves of each block's colour, words and byte.
+--     by-le                    a case split on whether a number is at most another
 --     painted, unpainted       the colour word of the block painted, and of any other
 --     byte-set, byte-kept      the same of a reference byte
 --     word-set, word-kept      the same of a word
@@ -13,12 +14,12 @@ use lib.Dec.{leb}
 use borrow.Author.Tests.{leb-true, leb-false}
 use lib.ListN.{length, getD, set, take, drop, length-take, List·getD-append}
 use lib.Seq.{getD-set-same, getD-set-other, getD-take, getD-drop, getD-append-add, length-take-le}
-use Rattle.blocks.specs.Block.{base, place, wordOf, byteOf, withEight}
+use Rattle.blocks.specs.Block.{index, base, place, wordOf, byteOf, withEight}
 use Rattle.blocks.specs.Colouring.{colourWord, paint}
 use Rattle.blocks.specs.WellFormed.{Block}
 use Rattle.blocks.proofs.Tests.{by-test}
 
-by-le : {A : Type 0} (a b : ℕ) → (a ≤ b → A) → (b < a → A) → A
+pub by-le : {A : Type 0} (a b : ℕ) → (a ≤ b → A) → (b < a → A) → A
 by-le a b p q = by-test (leb a b) (λ e. p (leb-true a b e)) (λ e. q (leb-false a b e))
 
 module _ {m : ℕ} {b : ℕ} (l : Block m b) where
@@ -27,6 +28,12 @@ module _ {m : ℕ} {b : ℕ} (l : Block m b) where
 
   pub unpainted : (cs : List ℕ) (w c : ℕ) → Block m c → c ≢ b → colourWord (paint b w cs) c ≡ colourWord cs c
   unpainted cs w c k n = getD-set-other cs (b - 2) (c - 2) w 0 (omega arith)
+
+  pub byte-set : (bs : List ℕ) (x : ℕ) → length bs ≡ m → byteOf (set bs (index b) x) b ≡ x
+  byte-set bs x e = getD-set-same bs (b - 2) x 0 (omega arith)
+
+  pub byte-kept : (bs : List ℕ) (x c : ℕ) → Block m c → c ≢ b → byteOf (set bs (index b) x) c ≡ byteOf bs c
+  byte-kept bs x c k n = getD-set-other bs (b - 2) (c - 2) x 0 (omega arith)
 
   pub word-set : (ws : List ℕ) (w v : ℕ) → length ws ≡ 8 * m → w ≤ 7 → wordOf (set ws (place b w) v) b w ≡ v
   word-set ws w v e o = getD-set-same ws (place b w) v 0 (omega arith)

@@ -1,6 +1,7 @@
 -- What a call does, deed by deed: its units one at a time, then the one thing that it was called for.
 --     Deed, deed d h       a deed, and the heap after it
 --     Allowed d h          the tests that the machine makes of that deed pass on h
+--     costs d, names d, takes d h, Touches d b w     the units, the target, the block taken and the word written of a deed
 --     deeds c h            the deeds of the call c on the heap h, in order
 --     after ds h           the heap after the deeds ds
 --     AllAllowed ds h      each of them is allowed when it is done
@@ -45,6 +46,38 @@ Allowed (aNumber b w v) h = readRefusal b w h ≡ 0
 Allowed (aReference b w t) h = storeRefusal b w t h ≡ 0
 Allowed (aRoot t) h = rootRefusal t h ≡ 0
 Allowed (aTake b w) h = (holderPlace (h .regs .blocks) b w ≡ 0) × (takeRefusal b h ≡ 0)
+
+-- a unit is 1 unit of work, and nothing else is any
+abbrev pub costs : Deed → ℕ
+costs aUnit = 1
+costs (aNumber b w v) = 0
+costs (aReference b w t) = 0
+costs (aRoot t) = 0
+costs (aTake b w) = 0
+
+-- the target that a deed names, and 0 where it names none
+abbrev pub names : Deed → ℕ
+names aUnit = 0
+names (aNumber b w v) = 0
+names (aReference b w t) = t
+names (aRoot t) = t
+names (aTake b w) = 0
+
+-- the block that a deed takes
+abbrev pub takes : Deed → Heap → List ℕ
+takes aUnit h = []
+takes (aNumber b w v) h = []
+takes (aReference b w t) h = []
+takes (aRoot t) h = []
+takes (aTake b w) h = h .regs .free ∷ []
+
+-- word w of b is the one that a deed writes: "only a store into it, or an allocation held by it, changes its words"
+abbrev pub Touches : Deed → ℕ → ℕ → Type 0
+Touches aUnit b w = ⊥
+Touches (aNumber c u v) b w = (b ≡ c) × (w ≡ u)
+Touches (aReference c u t) b w = (b ≡ c) × (w ≡ u)
+Touches (aRoot t) b w = ⊥
+Touches (aTake c u) b w = (b ≡ c) × (w ≡ u)
 
 -- the deeds of a call: none where it is refused or changes nothing
 unfoldable pub deeds : Call → Heap → List Deed

@@ -1,4 +1,6 @@
--- The promises: what they are about, and the machine seen as the abstract collector.
+-- The promises: what they are about, what they say, and the machine seen as the abstract collector.
 pub mod Reachable
 pub mod Deeds
+pub mod Sessions
+pub mod Demand2
 pub mod View
