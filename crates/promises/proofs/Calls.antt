@@ -91,9 +91,9 @@ module _ (h : Heap) (f : WellFormed h) where
       let u = run-works n 0 h (wf-shape h f) (wf-sound h f) in
       by-test (eqb (entry h ▷ holderPlace (h .regs .blocks) b w) 0)
       (λ t. simp t
-        (taken-deeds b w (run n 0 h) (u .refusal)
-        ∙ ap (after (then-take b w (run n 0 h .heap))) (units-after n 0 h f)
-        ∙ sym (after-append (replicate n aUnit) (then-take b w (run n 0 h .heap)) h)))
+      (taken-deeds b w (run n 0 h) (u .refusal)
+      ∙ ap (after (then-take b w (run n 0 h .heap))) (units-after n 0 h f)
+      ∙ sym (after-append (replicate n aUnit) (then-take b w (run n 0 h .heap)) h)))
       (λ t. simp t)
 
   pub calls-are-deeds : (c : Call) → (Formats c → ⊥) → does c h .heap ≡ after (deeds c h) h
@@ -121,10 +121,10 @@ module _ (h : Heap) (f : WellFormed h) where
       let u = run-works n 0 h (wf-shape h f) (wf-sound h f) in
       by-test (eqb (entry h ▷ holderPlace (h .regs .blocks) b w) 0)
       (λ t. subst (λ (ds : List Deed). AllAllowed ds h) (sym (if-true _ _ t))
-        (allowed-append (replicate n aUnit) (then-take b w (run n 0 h .heap)) h (units-allowed n h)
-          (subst (AllAllowed (then-take b w (run n 0 h .heap))) (units-after n 0 h f)
-            (one-allowed (takeRefusal b (run n 0 h .heap)) (aTake b w) (run n 0 h .heap)
-              (λ z. (subst (λ (m : ℕ). holderPlace m b w ≡ 0) (sym (u .blocks)) (first-zero _ _ (eqb-true _ 0 t) .1), z))))))
+      (allowed-append (replicate n aUnit) (then-take b w (run n 0 h .heap)) h (units-allowed n h)
+      (subst (AllAllowed (then-take b w (run n 0 h .heap))) (units-after n 0 h f)
+      (one-allowed (takeRefusal b (run n 0 h .heap)) (aTake b w) (run n 0 h .heap)
+      (λ z. (subst (λ (m : ℕ). holderPlace m b w ≡ 0) (sym (u .blocks)) (first-zero _ _ (eqb-true _ 0 t) .1), z))))))
       (λ t. subst (λ (ds : List Deed). AllAllowed ds h) (sym (if-false _ _ t)) tt)
   deeds-allowed (Work n) =
       by-test (eqb (entry h ▷ countRefusal n) 0)

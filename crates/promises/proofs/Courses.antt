@@ -85,7 +85,7 @@ deeds-run m (d ∷ ds) h e f a =
       proper = λ p. (λ n. subst (Reached (view h)) (sym (v .target)) (reachable-view (p .0 (λ z. n (v .target ∙ z)))), q .proper (p .1));
       begins = λ p. ap (λ (x : ℕ). x + begins (q .run)) (v .begins (p .0)) ∙ ap (λ (x : ℕ). 0 + x) (q .begins (p .1));
       freed = λ g l x. ⊎-elim (λ y. frees-deed m g h d ds f′ v l (y .0) (y .1)) (λ y. later d (q .freed g l y)) x;
-      formed = q .formed
+      formed = q .formed;
     }
 
 pub deeds-formed : (ds : List Deed) (h : Heap) → WellFormed h → AllAllowed ds h → WellFormed (after ds h)
@@ -119,6 +119,7 @@ session-is (c ∷ cs) h f n =
     let e = call-is h f c (n .0) in
     let a = deeds-allowed h f c in
     let f′ = subst WellFormed (sym e) (deeds-formed (deeds c h) h f a) in
-    let r = session-is cs (does c h .heap) f′ (n .1) in
-    (r .0 ∙ ap (after (sessionDeeds cs (does c h .heap))) e ∙ sym (after-append (deeds c h) (sessionDeeds cs (does c h .heap)) h),
-    allowed-append (deeds c h) (sessionDeeds cs (does c h .heap)) h a (subst (AllAllowed (sessionDeeds cs (does c h .heap))) e (r .1)))
+    let r = session-is cs (does c h .heap) f′ (n .1) in (
+      r .0 ∙ ap (after (sessionDeeds cs (does c h .heap))) e ∙ sym (after-append (deeds c h) (sessionDeeds cs (does c h .heap)) h),
+      allowed-append (deeds c h) (sessionDeeds cs (does c h .heap)) h a (subst (AllAllowed (sessionDeeds cs (does c h .heap))) e (r .1)),
+    )

@@ -1,5 +1,6 @@
 -- Every allowed deed on a well-formed heap is one move, of which it is known what it costs, names, takes and writes.
 --     DeedMove m h d           the move that the deed d is, and what is known of it
+--     barrier-keeps            what the barrier keeps of the registers
 --     deed-move                every allowed deed is one
 --     deed-formed              an allowed deed leaves a well-formed heap well-formed
 -- Assumes nothing.
@@ -48,7 +49,7 @@ pub record DeedMove (m : ℕ) (h : Heap) (d : Deed) : Type 0 where
   pub begins : (Begins d h → ⊥) → begun move ≡ 0
 
 -- the barrier keeps M and the pace
-barrier-keeps : (f : Regs → ℕ) → ((g : ℕ) (r : Regs) → f (record { blocks = r .blocks; pace = r .pace; phase = r .phase; grey = g; free = r .free; count = r .count; position = r .position; root = r .root; cycle = r .cycle }) ≡ f r) → (t : ℕ) (h : Heap) → f (barrier t h .regs) ≡ f (h .regs)
+pub barrier-keeps : (f : Regs → ℕ) → ((g : ℕ) (r : Regs) → f (record { blocks = r .blocks; pace = r .pace; phase = r .phase; grey = g; free = r .free; count = r .count; position = r .position; root = r .root; cycle = r .cycle }) ≡ f r) → (t : ℕ) (h : Heap) → f (barrier t h .regs) ≡ f (h .regs)
 unfolding barrier
 barrier-keeps f same t h = if-ind (λ (k : Heap). f (k .regs) ≡ f (h .regs)) (eqb (h .regs .phase) 1) (λ e. same _ (h .regs)) (λ e. refl)
 
@@ -93,23 +94,42 @@ deed-move h p s aUnit a =
     record { blocks = g .blocks; pace = g .pace; move = g .move; shape = g .shape; cost = g .unit; target = q .target; taking = q .taking; writes = q .writes; frees = λ z. never-unit (sym z); begins = idle-begins (g .move) }
 deed-move h p s (aNumber b w v) a =
     record {
-      blocks = refl; pace = refl; move = writeNumber b w v (number-move h p b w v a); shape = number-shape h p b w v a;
-      cost = refl; target = refl; taking = refl; writes = λ c u x. (x .block, x .word);
-      frees = λ z c l n e. n (sym (number-move h p b w v a .tints c l) ∙ e); begins = λ n. refl
+      blocks = refl;
+      pace = refl;
+      move = writeNumber b w v (number-move h p b w v a);
+      shape = number-shape h p b w v a;
+      cost = refl;
+      target = refl;
+      taking = refl;
+      writes = λ c u x. (x .block, x .word);
+      frees = λ z c l n e. n (sym (number-move h p b w v a .tints c l) ∙ e);
+      begins = λ n. refl;
     }
 deed-move h p s (aReference b w t) a =
     record {
-      blocks = barrier-keeps (λ r. r .blocks) (λ g r. refl) t h; pace = barrier-keeps (λ r. r .pace) (λ g r. refl) t h;
-      move = writeRef b w t (reference-move h p t b w a); shape = reference-shape h p t b w a;
-      cost = refl; target = refl; taking = refl; writes = λ c u x. (x .block, x .word);
-      frees = λ z c l n e. n (was-free (reference-move h p t b w a .tints c l) e); begins = λ n. refl
+      blocks = barrier-keeps (λ r. r .blocks) (λ g r. refl) t h;
+      pace = barrier-keeps (λ r. r .pace) (λ g r. refl) t h;
+      move = writeRef b w t (reference-move h p t b w a);
+      shape = reference-shape h p t b w a;
+      cost = refl;
+      target = refl;
+      taking = refl;
+      writes = λ c u x. (x .block, x .word);
+      frees = λ z c l n e. n (was-free (reference-move h p t b w a .tints c l) e);
+      begins = λ n. refl;
     }
 deed-move h p s (aRoot t) a =
     record {
-      blocks = barrier-keeps (λ r. r .blocks) (λ g r. refl) t h; pace = barrier-keeps (λ r. r .pace) (λ g r. refl) t h;
-      move = setRoot t (root-move h p t a); shape = root-shape h p t a;
-      cost = refl; target = refl; taking = refl; writes = λ c u x. x;
-      frees = λ z c l n e. n (was-free (root-move h p t a .tints c l) e); begins = λ n. refl
+      blocks = barrier-keeps (λ r. r .blocks) (λ g r. refl) t h;
+      pace = barrier-keeps (λ r. r .pace) (λ g r. refl) t h;
+      move = setRoot t (root-move h p t a);
+      shape = root-shape h p t a;
+      cost = refl;
+      target = refl;
+      taking = refl;
+      writes = λ c u x. x;
+      frees = λ z c l n e. n (was-free (root-move h p t a .tints c l) e);
+      begins = λ n. refl;
     }
 deed-move h p s (aTake b w) a =
     let k = held b w (h .regs .free) (taken h) in
@@ -118,17 +138,31 @@ deed-move h p s (aTake b w) a =
     let pace = held-keeps (λ r. r .pace) (λ x r. refl) b w (h .regs .free) (taken h) in
     by-eq b 0
     (λ z.
-      record {
-        blocks = same; pace = pace; move = takeRoot (h .regs .free) (take-root h p b w (a .1) z); shape = take-shape h p b w (a .1) l;
-        cost = refl; target = refl; taking = refl; writes = λ c u x. absurd x;
-        frees = λ q c k n e. taken-kept (take-root h p b w (a .1) z .taken) c k n e; begins = λ n. refl
-      })
+    record {
+      blocks = same;
+      pace = pace;
+      move = takeRoot (h .regs .free) (take-root h p b w (a .1) z);
+      shape = take-shape h p b w (a .1) l;
+      cost = refl;
+      target = refl;
+      taking = refl;
+      writes = λ c u x. absurd x;
+      frees = λ q c k n e. taken-kept (take-root h p b w (a .1) z .taken) c k n e;
+      begins = λ n. refl;
+    })
     (λ z.
-      record {
-        blocks = same; pace = pace; move = takeHeld (h .regs .free) b w (take-held h p b w (a .1) z (l z .0) (l z .1)); shape = take-shape h p b w (a .1) l;
-        cost = refl; target = refl; taking = refl; writes = λ c u x. (x .block, x .word);
-        frees = λ q c k n e. taken-kept (take-held h p b w (a .1) z (l z .0) (l z .1) .taken) c k n e; begins = λ n. refl
-      })
+    record {
+      blocks = same;
+      pace = pace;
+      move = takeHeld (h .regs .free) b w (take-held h p b w (a .1) z (l z .0) (l z .1));
+      shape = take-shape h p b w (a .1) l;
+      cost = refl;
+      target = refl;
+      taking = refl;
+      writes = λ c u x. (x .block, x .word);
+      frees = λ q c k n e. taken-kept (take-held h p b w (a .1) z (l z .0) (l z .1) .taken) c k n e;
+      begins = λ n. refl;
+    })
 
 pub deed-formed : (h : Heap) → WellFormed h → (d : Deed) → Allowed d h → WellFormed (deed d h)
 deed-formed h f d a =

@@ -17,3 +17,6 @@ pub mod TakingMoves
 pub mod DeedMoves
 pub mod Courses
 pub mod Keeping
+pub mod Losing
+pub mod Chaining
+pub mod Collecting

@@ -1,6 +1,7 @@
 -- On a well-formed heap every unit is finished, is a move of the abstract collector, and leaves the heap's shape right.
 --     Goes h e                 the unit that ended as e was finished and is a move from the view of h
 --     unit-goes                every unit of a well-formed heap does
+--     unit-begins              an idle unit is a beginning
 -- Assumes nothing.
 use Prim.Native.Nat.{ℕ, _+_, _≤_}
 use mathlib.Core.Path.{_≡_, refl, sym, _∙_, ap, subst}
@@ -30,6 +31,7 @@ use Rattle.moves.specs.Tints as tints
 use Rattle.moves.specs.Heaps.{Sound}
 use Rattle.moves.specs.Heaps as heaps
 use Rattle.moves.specs.Moves.{Move}
+use Rattle.moves.specs.Moves as moves
 use Rattle.moves.specs.Moves.Move.{begin, mark, turn, sweep}
 use Rattle.moves.specs.Kinds.{cost}
 use Rattle.promises.specs.View.{tintOf, view, Shape}
@@ -190,3 +192,9 @@ module _ (h : Heap) (p : Shape h) (d : Sound (h .regs .blocks) (view h)) where
       by-eq (h .regs .phase) marking
       (λ k. by-eq (h .regs .grey) 1 (turn-goes k) (mark-goes k))
       (λ k. let f = p .ready .phase in sweep-goes (omega arith) (colour m (metWord h)) refl))
+
+-- an idle unit is a beginning
+pub unit-begins : (h : Heap) → Shape h → Sound (h .regs .blocks) (view h) → h .regs .phase ≡ idle → moves.Begin (h .regs .blocks) (view h) (view (unit h .heap))
+unfolding unit act
+unit-begins h p d i =
+    subst (λ (s : Step). moves.Begin (h .regs .blocks) (view h) (view (act s h .heap))) (begins (h .regs .blocks) _ _ _ i (root-white h p d i)) (begin-move h p i (root-white h p d i))

@@ -1,0 +1,52 @@
+-- Garbage goes: demand 2's last sentence.
+--     cycle-collects           a cycle from an idle well-formed heap frees what was allocated and out of reach
+--     garbage-goes             the promise, over sessions
+-- Assumes nothing.
+use Prim.Native.Nat.{ℕ}
+use mathlib.Core.Path.{_≡_, refl, sym, _∙_, ap, subst}
+use mathlib.Core.List.{List, [], _∷_, _++_}
+use native.Mathlib.Omega.{arith}
+use Rattle.blocks.specs.Registers.{idle}
+use Rattle.blocks.specs.Heap.{Heap}
+use Rattle.blocks.specs.WellFormed.{Block, WellFormed}
+use Rattle.blocks.specs.Session.{Call}
+use Rattle.reach.specs.Sums as sums
+use Rattle.moves.specs.Tints as tints
+use Rattle.moves.specs.Heaps.{Abs}
+use Rattle.moves.specs.Moves.{Move, Begin}
+use Rattle.moves.specs.Kinds.{begun, begins?}
+use Rattle.moves.specs.Garbage as garbage
+use Rattle.promises.specs.View.{view}
+use Rattle.promises.specs.Reachable.{Reachable, IsFree}
+use Rattle.promises.specs.Deeds.{Deed, aUnit, deed, AllAllowed, after}
+use Rattle.promises.specs.Sessions.{NoReset, sessionDeeds, Proper, NoBegin, FreedBy, later}
+use Rattle.promises.specs.Demand2.{GarbageGoes}
+use Rattle.promises.proofs.Viewing.{there, wf-shape, wf-sound}
+use Rattle.promises.proofs.Reaching.{view-reachable, view-free}
+use Rattle.promises.proofs.MarkingMoves.{begin-move}
+use Rattle.promises.proofs.UnitMoves.{unit-begins}
+use Rattle.promises.proofs.DeedMoves.{DeedMove, deed-move, deed-formed}
+use Rattle.promises.proofs.Courses.{Ran, freed-at, deeds-run, deeds-formed, allowed-left, allowed-right, session-is}
+
+pub cycle-collects : (h : Heap) → WellFormed h → (ys : List Deed) → AllAllowed ys (deed aUnit h)
+    → h .regs .phase ≡ idle → NoBegin ys (deed aUnit h) → after ys (deed aUnit h) .regs .phase ≡ idle → Proper ys (deed aUnit h)
+    → (g : ℕ) → Block (h .regs .blocks) g → (IsFree h g → ⊥) → (Reachable h g → ⊥) → FreedBy g (aUnit ∷ ys) h
+unfolding deed
+cycle-collects h f ys a i n z p g l k r =
+    let v = deed-move h (wf-shape h f) (wf-sound h f) aUnit tt in
+    let q = deeds-run (h .regs .blocks) ys (deed aUnit h) (v .blocks) (deed-formed h f aUnit tt) a in
+    later aUnit
+    (q .freed g (there l)
+    (freed-at
+    (garbage.garbage-goes (wf-sound h f) (unit-begins h (wf-shape h f) (wf-sound h f) i) (there l)
+    (λ e. k (view-free (wf-shape h f) l e)) (λ e. r (view-reachable e)) (q .run) (q .begins n) (q .proper p) z)))
+
+pub garbage-goes : GarbageGoes
+garbage-goes h f cs n xs ys zs e i b z p g l k r =
+    let s = session-is cs h f n in
+    let a = subst (λ (ds : List Deed). AllAllowed ds h) e (s .1) in
+    let before = allowed-left xs (aUnit ∷ (ys ++ zs)) h a in
+    let rest = allowed-right xs (aUnit ∷ (ys ++ zs)) h a in
+    let q = deeds-run (h .regs .blocks) xs h refl f before in
+    cycle-collects (after xs h) (q .formed) ys (allowed-left ys zs (deed aUnit (after xs h)) (rest .1)) i b z p g
+    (subst (λ (m : ℕ). Block m g) (sym (q .blocks)) l) k r
