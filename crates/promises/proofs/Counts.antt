@@ -1,4 +1,5 @@
 -- The free count is the number of free blocks, in the machine and in its view.
+--     count-sum                a count and a sum of weights agree where they agree block by block
 --     free-count               the number of blocks that are free in the view is the free count
 --     not-all-free             where some block is allocated the free count is below M
 -- Assumes nothing.
@@ -28,11 +29,11 @@ use Rattle.promises.specs.View.{tintOf, view, Shape}
 use Rattle.promises.proofs.Viewing.{here, there}
 use Rattle.promises.proofs.Recolouring.{free-of, of-free}
 
-abbrev one : Bool → ℕ
+abbrev pub one : Bool → ℕ
 one t = if t then 1 else 0
 
 -- a count and a sum of weights agree where they agree block by block
-count-sum : (p : ℕ → Bool) (f : ℕ → ℕ) (n b : ℕ) → ((c : ℕ) → Within n b c → f c ≡ one (p c)) → sum n b f ≡ countFrom p n b
+pub count-sum : (p : ℕ → Bool) (f : ℕ → ℕ) (n b : ℕ) → ((c : ℕ) → Within n b c → f c ≡ one (p c)) → sum n b f ≡ countFrom p n b
 unfolding sum countFrom
 count-sum p f zero b same = refl
 count-sum p f (suc n) b same =

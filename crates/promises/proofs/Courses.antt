@@ -24,11 +24,11 @@ use Rattle.moves.specs.Tints as tints
 use Rattle.moves.specs.Heaps.{Abs, Sound, Reached}
 use Rattle.moves.specs.Moves.{Move}
 use Rattle.moves.specs.Kinds.{cost, begun, target}
-use Rattle.moves.specs.Runs.{Run, rest, step, units, begins, ProperRun, FreedIn, freed-now, freed-later, OnlyUnits}
+use Rattle.moves.specs.Runs.{Run, rest, step, units, begins, marks, ProperRun, FreedIn, freed-now, freed-later, OnlyUnits}
 use Rattle.promises.specs.View.{view, Shape}
 use Rattle.promises.specs.Reachable.{Reachable, IsFree}
 use Rattle.promises.specs.Deeds.{Deed, aUnit, aNumber, aReference, aRoot, aTake, deed, Allowed, AllAllowed, costs, names, deeds, after, Formats}
-use Rattle.promises.specs.Sessions.{Resets, NoReset, sessionDeeds, Proper, Begins, NoBegin, FreedBy, now, later, unitsIn}
+use Rattle.promises.specs.Sessions.{Resets, NoReset, sessionDeeds, Proper, Begins, NoBegin, FreedBy, now, later, unitsIn, marksIn, marking?}
 use Rattle.promises.proofs.Viewing.{here, there, wf-shape, wf-sound}
 use Rattle.promises.proofs.Reaching.{reachable-view, free-view, view-free}
 use Rattle.promises.proofs.DeedMoves.{DeedMove, deed-move, deed-formed}
@@ -50,6 +50,7 @@ pub record Ran (m : ℕ) (h : Heap) (ds : List Deed) : Type 0 where
   pub units : units run ≡ unitsIn ds
   pub proper : Proper ds h → ProperRun run
   pub begins : NoBegin ds h → begins run ≡ 0
+  pub marks : marks run ≡ marksIn ds h
   pub freed : (g : ℕ) → sums.Block m g → FreedAt g run → FreedBy g ds h
   pub formed : WellFormed (after ds h)
 
@@ -72,7 +73,7 @@ format-refused m u h n =
 pub deeds-run : (m : ℕ) (ds : List Deed) (h : Heap) → h .regs .blocks ≡ m → WellFormed h → AllAllowed ds h → Ran m h ds
 unfolding after
 deeds-run m [] h e f a =
-    record { blocks = e; pace = refl; run = rest; units = refl; proper = λ p. tt; begins = λ p. refl; freed = λ g l q. absurd q; formed = f }
+    record { blocks = e; pace = refl; run = rest; units = refl; proper = λ p. tt; begins = λ p. refl; marks = refl; freed = λ g l q. absurd q; formed = f }
 deeds-run m (d ∷ ds) h e f a =
     let v = subst (λ (n : ℕ). DeedMove n h d) e (deed-move h (wf-shape h f) (wf-sound h f) d (a .0)) in
     let f′ = deed-formed h f d (a .0) in
@@ -84,6 +85,7 @@ deeds-run m (d ∷ ds) h e f a =
       units = ap (λ (x : ℕ). x + units (q .run)) (v .cost) ∙ ap (λ (x : ℕ). costs d + x) (q .units);
       proper = λ p. (λ n. subst (Reached (view h)) (sym (v .target)) (reachable-view (p .0 (λ z. n (v .target ∙ z)))), q .proper (p .1));
       begins = λ p. ap (λ (x : ℕ). x + begins (q .run)) (v .begins (p .0)) ∙ ap (λ (x : ℕ). 0 + x) (q .begins (p .1));
+      marks = ap (λ (x : ℕ). x + marks (q .run)) (v .marks) ∙ ap (λ (x : ℕ). marking? d h + x) (q .marks);
       freed = λ g l x. ⊎-elim (λ y. frees-deed m g h d ds f′ v l (y .0) (y .1)) (λ y. later d (q .freed g l y)) x;
       formed = q .formed;
     }

@@ -26,11 +26,11 @@ use Rattle.moves.specs.Tints.{was-free}
 use Rattle.moves.specs.Tints as tints
 use Rattle.moves.specs.Moves.{Move, Taken}
 use Rattle.moves.specs.Moves.Move.{begin, mark, turn, sweep, writeNumber, writeRef, setRoot, takeHeld, takeRoot}
-use Rattle.moves.specs.Kinds.{cost, target, taking, Writes, begun, begins?}
+use Rattle.moves.specs.Kinds.{cost, target, taking, Writes, begun, marked, begins?}
 use Rattle.moves.specs.Soundness.{move-sound}
 use Rattle.promises.specs.View.{view, Shape}
 use Rattle.promises.specs.Deeds.{Deed, aUnit, aNumber, aReference, aRoot, aTake, deed, Allowed, costs, names, takes, Touches}
-use Rattle.promises.specs.Sessions.{Begins}
+use Rattle.promises.specs.Sessions.{Begins, marking?}
 use Rattle.promises.proofs.Viewing.{wf-shape, wf-sound, shape-wf}
 use Rattle.promises.proofs.UnitMoves.{Goes, unit-goes}
 use Rattle.promises.proofs.StoringMoves.{number-move, number-shape, reference-move, reference-shape, root-move, root-shape}
@@ -47,6 +47,7 @@ pub record DeedMove (m : ℕ) (h : Heap) (d : Deed) : Type 0 where
   pub writes : (b w : ℕ) → Writes move b w → Touches d b w
   pub frees : costs d ≡ 0 → (c : ℕ) → sums.Block m c → view h .tint c ≢ tints.Free → view (deed d h) .tint c ≢ tints.Free
   pub begins : (Begins d h → ⊥) → begun move ≡ 0
+  pub marks : marked move ≡ marking? d h
 
 -- the barrier keeps M and the pace
 pub barrier-keeps : (f : Regs → ℕ) → ((g : ℕ) (r : Regs) → f (record { blocks = r .blocks; pace = r .pace; phase = r .phase; grey = g; free = r .free; count = r .count; position = r .position; root = r .root; cycle = r .cycle }) ≡ f r) → (t : ℕ) (h : Heap) → f (barrier t h .regs) ≡ f (h .regs)
@@ -91,7 +92,7 @@ unfolding deed putNumber putReference taken
 deed-move h p s aUnit a =
     let g = unit-goes h p s in
     let q = unit-plain (g .move) (g .unit) in
-    record { blocks = g .blocks; pace = g .pace; move = g .move; shape = g .shape; cost = g .unit; target = q .target; taking = q .taking; writes = q .writes; frees = λ z. never-unit (sym z); begins = idle-begins (g .move) }
+    record { blocks = g .blocks; pace = g .pace; move = g .move; shape = g .shape; cost = g .unit; target = q .target; taking = q .taking; writes = q .writes; frees = λ z. never-unit (sym z); begins = idle-begins (g .move); marks = g .marks }
 deed-move h p s (aNumber b w v) a =
     record {
       blocks = refl;
@@ -103,7 +104,7 @@ deed-move h p s (aNumber b w v) a =
       taking = refl;
       writes = λ c u x. (x .block, x .word);
       frees = λ z c l n e. n (sym (number-move h p b w v a .tints c l) ∙ e);
-      begins = λ n. refl;
+      begins = λ n. refl; marks = refl;
     }
 deed-move h p s (aReference b w t) a =
     record {
@@ -116,7 +117,7 @@ deed-move h p s (aReference b w t) a =
       taking = refl;
       writes = λ c u x. (x .block, x .word);
       frees = λ z c l n e. n (was-free (reference-move h p t b w a .tints c l) e);
-      begins = λ n. refl;
+      begins = λ n. refl; marks = refl;
     }
 deed-move h p s (aRoot t) a =
     record {
@@ -129,7 +130,7 @@ deed-move h p s (aRoot t) a =
       taking = refl;
       writes = λ c u x. x;
       frees = λ z c l n e. n (was-free (root-move h p t a .tints c l) e);
-      begins = λ n. refl;
+      begins = λ n. refl; marks = refl;
     }
 deed-move h p s (aTake b w) a =
     let k = held b w (h .regs .free) (taken h) in
@@ -148,7 +149,7 @@ deed-move h p s (aTake b w) a =
       taking = refl;
       writes = λ c u x. absurd x;
       frees = λ q c k n e. taken-kept (take-root h p b w (a .1) z .taken) c k n e;
-      begins = λ n. refl;
+      begins = λ n. refl; marks = refl;
     })
     (λ z.
     record {
@@ -161,7 +162,7 @@ deed-move h p s (aTake b w) a =
       taking = refl;
       writes = λ c u x. (x .block, x .word);
       frees = λ q c k n e. taken-kept (take-held h p b w (a .1) z (l z .0) (l z .1) .taken) c k n e;
-      begins = λ n. refl;
+      begins = λ n. refl; marks = refl;
     })
 
 pub deed-formed : (h : Heap) → WellFormed h → (d : Deed) → Allowed d h → WellFormed (deed d h)

@@ -20,3 +20,4 @@ pub mod Keeping
 pub mod Losing
 pub mod Chaining
 pub mod Collecting
+pub mod Bounding

@@ -34,6 +34,9 @@ use Rattle.moves.specs.Moves.{Move}
 use Rattle.moves.specs.Moves as moves
 use Rattle.moves.specs.Moves.Move.{begin, mark, turn, sweep}
 use Rattle.moves.specs.Kinds.{cost}
+use Rattle.moves.specs.Kinds as moves-kinds
+use Rattle.promises.specs.Deeds.{aUnit}
+use Rattle.promises.specs.Sessions.{marking?}
 use Rattle.promises.specs.View.{tintOf, view, Shape}
 use Rattle.promises.proofs.Viewing.{here, there, colour-is, names-ref}
 use Rattle.promises.proofs.Greys.{white-colour}
@@ -48,6 +51,7 @@ pub record Goes (h : Heap) (e : UnitEnd) : Type 0 where
   pub pace : e .heap .regs .pace ≡ h .regs .pace
   pub move : Move (h .regs .blocks) (view h) (view (e .heap))
   pub unit : cost move ≡ 1
+  pub marks : moves-kinds.marked move ≡ marking? aUnit h
   pub shape : Shape (e .heap)
 
 -- a colour that is allocated
@@ -104,6 +108,7 @@ module _ (h : Heap) (p : Shape h) (d : Sound (h .regs .blocks) (view h)) where
         pace = refl;
         move = begin (begin-move h p i (root-white i));
         unit = refl;
+        marks = simp (ne-eqb (h .regs .phase) marking (λ z. absurd (omega arith)));
         shape = begin-shape h p i (root-white i);
       })
 
@@ -111,7 +116,7 @@ module _ (h : Heap) (p : Shape h) (d : Sound (h .regs .blocks) (view h)) where
   unfolding act turned
   turn-goes k o =
       by-step Turn (turns m _ _ _ k o)
-      (record { finished = refl; blocks = refl; pace = refl; move = turn (turn-move h p k o); unit = refl; shape = turn-shape h p k o })
+      (record { finished = refl; blocks = refl; pace = refl; move = turn (turn-move h p k o); unit = refl; marks = simp (eq-eqb (h .regs .phase) marking k, eq-eqb (h .regs .grey) 1 o); shape = turn-shape h p k o })
 
   -- marking: the first of the grey list is grey, and what it names is 0 or live
   head-grey : h .regs .phase ≡ marking → h .regs .grey ≢ 1 → colour m (metWord h) ≡ Grey
@@ -142,6 +147,7 @@ module _ (h : Heap) (p : Shape h) (d : Sound (h .regs .blocks) (view h)) where
         pace = refl;
         move = mark (h .regs .grey) (mark-move h p k n (head-grey k n));
         unit = refl;
+        marks = simp (eq-eqb (h .regs .phase) marking k, ne-eqb (h .regs .grey) 1 n);
         shape = mark-shape h p k n (head-grey k n);
       }))
 
@@ -159,6 +165,7 @@ module _ (h : Heap) (p : Shape h) (d : Sound (h .regs .blocks) (view h)) where
         pace = advance-same (λ r. r .pace) _ (λ x y r. refl);
         move = sweep (reclaim-move h p s w);
         unit = refl;
+        marks = simp (ne-eqb (h .regs .phase) marking (λ z. absurd (omega arith)));
         shape = reclaim-shape h p s w n;
       }))
   sweep-goes s Black e =
@@ -170,6 +177,7 @@ module _ (h : Heap) (p : Shape h) (d : Sound (h .regs .blocks) (view h)) where
         pace = advance-same (λ r. r .pace) _ (λ x y r. refl);
         move = sweep (whiten-move h p s w);
         unit = refl;
+        marks = simp (ne-eqb (h .regs .phase) marking (λ z. absurd (omega arith)));
         shape = whiten-shape h p s w;
       })
   sweep-goes s Free e =
@@ -181,6 +189,7 @@ module _ (h : Heap) (p : Shape h) (d : Sound (h .regs .blocks) (view h)) where
         pace = advance-same (λ r. r .pace) _ (λ x y r. refl);
         move = sweep (pass-move h p s w);
         unit = refl;
+        marks = simp (ne-eqb (h .regs .phase) marking (λ z. absurd (omega arith)));
         shape = pass-shape h p s w;
       })
   sweep-goes s Grey e = absurd (d .sweptGrey s (h .regs .position) (there (position-block h p s)) (ap tintOf (met-here h p s Grey e)))

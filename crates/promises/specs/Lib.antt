@@ -3,4 +3,5 @@ pub mod Reachable
 pub mod Deeds
 pub mod Sessions
 pub mod Demand2
+pub mod Demand3
 pub mod View
