@@ -21,3 +21,4 @@ pub mod Losing
 pub mod Chaining
 pub mod Collecting
 pub mod Bounding
+pub mod Rooming
