@@ -8,7 +8,8 @@ ghost use Prim.Native.Nat.{ℕ, _≤_};
 ghost use lib.ListN.{length};
 ghost use Rattle.blocks.specs.declared.Regs.{Regs};
 ghost use Rattle.blocks.specs.declared.Colour.the-variants.{White, Grey, Black, Free};
-ghost use Rattle.blocks.specs.WellFormed.{Block};
+ghost use mathlib.Core.Logic.{_↔_};
+ghost use Rattle.blocks.specs.WellFormed.{Block, WellFormed};
 ghost use Rattle.blocks.specs.Heap.{heap};
 ghost use Rattle.blocks.specs.Ready.{Ready};
 ghost use Rattle.blocks.specs.Audit.{allFrom, zeroFrom, mayBeBlack, colourPasses, blockPasses, passes, audit};
@@ -142,6 +143,7 @@ fn passes(r: Regs, words: &[u32], colours: &[u32], bytes: &[u8]) -> bool
 // Audit: 1 for a well-formed heap, else 0. It never refuses and changes nothing.
 pub fn audit(r: Regs, words: &[u32], colours: &[u32], bytes: &[u8]) -> Answer
     ensures { λ x. ⌜ (record { answer = x; heap = heap r (now (words .exit)) (now (colours .exit)) (now (bytes .exit)) }) ≡ audit (heap r (now (words .entry)) (now (colours .entry)) (now (bytes .entry))) ⌝ }
+    ensures meaning { λ x. ⌜ ((x .value ≡ 1) ↔ WellFormed (heap r (now (words .entry)) (now (colours .entry)) (now (bytes .entry)))) ⌝ }
 {
     if passes(r, words, colours, bytes) {
         return Answer {

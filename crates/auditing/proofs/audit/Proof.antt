@@ -1,6 +1,9 @@
--- `auditing::audit` meets its contract. Assumes nothing.
-use Rattle.blocks.proofs.Tests.{so}
+-- `auditing::audit` meets its contract: the answer is the machine's, and 1 exactly on a well-formed heap. Assumes nothing.
+use mathlib.Core.Path.{refl}
+use native.Mathlib.Omega.{arith}
+use Rattle.blocks.proofs.Tests.{so, clash}
 use Rattle.blocks.proofs.Passing.{audit-one, audit-none}
+use Rattle.meaning.proofs.Audit.{audit-meaning}
 use borrow.Author.Needs.{needs}
 use Rattle.auditing.proofs.audit.Statement.{statement}
 use Rattle.auditing.proofs.audit.Tie as tie
@@ -9,10 +12,14 @@ passes-requires : tie.Need-passes-requires
 passes-requires c κs = search needs
 
 returns : tie.Need-returns
-returns c = audit-one _ (so (c .before .passes .ensures) (c .if1 .taken))
+returns c =
+    let t = so (c .before .passes .ensures) (c .if1 .taken) in
+    (audit-one _ t, (λ e. audit-meaning _ .0 t, λ f. refl))
 
 returns-2 : tie.Need-returns-2
-returns-2 c = audit-none _ (so (c .before .passes .ensures) (c .if1 .left))
+returns-2 c =
+    let t = so (c .before .passes .ensures) (c .if1 .left) in
+    (audit-none _ t, (λ e. absurd (omega arith), λ f. clash (audit-meaning _ .1 f) t))
 
 pub audit-spec : {M : Type 1} → statement M
 audit-spec = tie.close (tie.spec passes-requires returns returns-2)
