@@ -7,7 +7,7 @@
 -- In the terms of Garbage: whatever is reachable afterwards is in the set Inside of the heap before. No cycle has to be cut out of the run here:
 -- it is enough that the run has the ends of cycles in it.
 -- Assumes nothing.
-use Prim.Native.Nat.{ℕ, _+_, _≤_}
+use Prim.Native.Nat.{ℕ, _≤_}
 use mathlib.Core.Path.{_≡_, refl, sym, _∙_, subst}
 use mathlib.Core.Logic.{_≢_}
 use native.Mathlib.Omega.{arith}
@@ -15,8 +15,8 @@ use Rattle.reach.specs.Splits.{never, by-eq}
 use Rattle.reach.specs.Sums.{Block}
 use Rattle.reach.specs.Reaching.{at-root, along, reach-closed}
 use Rattle.moves.specs.Tints.{Free, by-free}
-use Rattle.moves.specs.Heaps.{Abs, idle, named, ref, Reached, Live, Sound, reached-live}
-use Rattle.moves.specs.Moves.{Begin, Move, begin, mark, turn, sweep, writeNumber, writeRef, setRoot, takeHeld, takeRoot}
+use Rattle.moves.specs.Heaps.{Abs, idle, named, ref, Reached, Live, Sound}
+use Rattle.moves.specs.Moves.{Move, begin, mark, turn, sweep, writeNumber, writeRef, setRoot, takeHeld, takeRoot}
 use Rattle.moves.specs.Kinds.{begun, ended, begins?, ended-idle, ended-one}
 use Rattle.moves.specs.Mutating.{Mutation, number-mutation, ref-mutation, root-mutation, held-mutation, taken-mutation}
 use Rattle.moves.specs.Soundness.{move-sound}

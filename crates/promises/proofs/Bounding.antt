@@ -4,30 +4,28 @@
 -- Assumes nothing.
 use Prim.Native.Nat.{ℕ, _+_, _≤_}
 use mathlib.Core.Path.{_≡_, refl, sym, _∙_, ap, subst}
-use mathlib.Core.Bool.{Bool, true, false, _&&_}
+use mathlib.Core.Bool.{Bool, _&&_}
 use mathlib.Core.List.{List, _∷_, _++_}
 use native.Mathlib.Omega.{arith}
 use Rattle.blocks.specs.declared.Colour.{Colour}
 use Rattle.blocks.specs.declared.Colour.the-variants.{White, Grey, Black, Free, Outside}
-use Rattle.blocks.specs.Tests.{if_then_else_}
 use Rattle.blocks.specs.Registers.{idle}
-use Rattle.blocks.specs.Block.{isBlock}
 use Rattle.blocks.specs.Colouring.{allocatedColour, isAllocated}
 use Rattle.blocks.specs.Heap.{Heap, colourOf}
-use Rattle.blocks.specs.WellFormed.{Block, WellFormed}
+use Rattle.blocks.specs.WellFormed.{WellFormed}
 use Rattle.blocks.specs.Session.{Call}
 use Rattle.blocks.proofs.Blocks.{block-isBlock}
 use Rattle.reach.specs.Sums.{total}
 use Rattle.moves.specs.Heaps.{span}
 use Rattle.moves.specs.Bounds.{stands, allocated, all-blocks, cycle-most, cycle-exact}
-use Rattle.promises.specs.View.{tintOf, view, Shape}
+use Rattle.promises.specs.View.{tintOf, view}
 use Rattle.promises.specs.Deeds.{Deed, aUnit, deed, AllAllowed, after}
 use Rattle.promises.specs.Sessions.{NoReset, sessionDeeds, NoBegin, unitsIn, marksIn}
 use Rattle.promises.specs.Demand3.{allocatedBlocks, CycleShort}
 use Rattle.promises.proofs.Viewing.{wf-shape, wf-sound}
 use Rattle.promises.proofs.Counts.{one, count-sum, free-count}
 use Rattle.promises.proofs.UnitMoves.{unit-begins}
-use Rattle.promises.proofs.DeedMoves.{DeedMove, deed-move, deed-formed}
+use Rattle.promises.proofs.DeedMoves.{deed-move, deed-formed}
 use Rattle.promises.proofs.Courses.{Ran, deeds-run, allowed-left, allowed-right, session-is}
 
 colour-stands : (c : Colour) → stands (tintOf c) ≡ one (allocatedColour c)
@@ -76,9 +74,9 @@ cycle-short =
     record {
       counted = counted;
       short = λ h f cs n xs ys zs e i b.
-        let c = cut h f cs n xs ys zs e in
-        subst (λ (m : ℕ). unitsIn (aUnit ∷ ys) ≤ allocatedBlocks (after xs h) + m + 2) (c .blocks) (units-most (after xs h) (c .formed) ys (c .allowed) i b);
+          let c = cut h f cs n xs ys zs e in
+          subst (λ (m : ℕ). unitsIn (aUnit ∷ ys) ≤ allocatedBlocks (after xs h) + m + 2) (c .blocks) (units-most (after xs h) (c .formed) ys (c .allowed) i b);
       exact = λ h f cs n xs ys zs e i b z.
-        let c = cut h f cs n xs ys zs e in
-        subst (λ (m : ℕ). unitsIn (aUnit ∷ ys) ≡ 2 + marksIn ys (deed aUnit (after xs h)) + m) (c .blocks) (units-exact (after xs h) (c .formed) ys (c .allowed) i b z)
+          let c = cut h f cs n xs ys zs e in
+          subst (λ (m : ℕ). unitsIn (aUnit ∷ ys) ≡ 2 + marksIn ys (deed aUnit (after xs h)) + m) (c .blocks) (units-exact (after xs h) (c .formed) ys (c .allowed) i b z);
     }

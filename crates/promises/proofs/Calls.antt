@@ -5,21 +5,19 @@
 -- Assumes nothing.
 use Prim.Native.Nat.{ℕ, zero, suc, _+_}
 use mathlib.Core.Path.{_≡_, refl, sym, _∙_, ap, subst}
-use mathlib.Core.Bool.{Bool, true, false}
 use mathlib.Core.List.{List, [], _∷_, _++_}
-use native.Mathlib.Omega.{arith}
 use lib.Dec.{eqb}
 use lib.ListN.{replicate}
 use borrow.Author.Tests.{eqb-true, eq-eqb}
 use Rattle.blocks.specs.Tests.{if_then_else_, _▷_}
 use Rattle.blocks.specs.Heap.{Heap}
 use Rattle.blocks.specs.Entry.{entry, holderPlace}
-use Rattle.blocks.specs.Answers.{unless, refuse, done}
+use Rattle.blocks.specs.Answers.{unless, done}
 use Rattle.blocks.specs.OneUnit.{unit}
 use Rattle.blocks.specs.Units.{RunEnd, stopped, run}
-use Rattle.blocks.specs.Read.{readRefusal, read, look}
-use Rattle.blocks.specs.Store.{barrier, putNumber, putReference, storeRefusal, rootRefusal, storeNumber, storeReference, setRoot}
-use Rattle.blocks.specs.Allocate.{unitsDue, taken, held, takeRefusal, allocated, allocate}
+use Rattle.blocks.specs.Read.{readRefusal, read}
+use Rattle.blocks.specs.Store.{storeRefusal, rootRefusal, storeNumber, storeReference, setRoot}
+use Rattle.blocks.specs.Allocate.{unitsDue, takeRefusal, allocated, allocate}
 use Rattle.blocks.specs.Work.{countRefusal, work}
 use Rattle.blocks.specs.Audit.{audit}
 use Rattle.blocks.specs.WellFormed.{WellFormed}
@@ -29,11 +27,11 @@ use Rattle.blocks.proofs.Tests.{by-test, if-true, if-false}
 use Rattle.blocks.proofs.Entering.{first-zero}
 use Rattle.moves.specs.Heaps.{Sound}
 use Rattle.moves.specs.Soundness.{move-sound}
-use Rattle.promises.specs.View.{view, Shape}
+use Rattle.promises.specs.View.{view}
 use Rattle.promises.specs.Deeds.{Deed, aUnit, aNumber, aReference, aRoot, aTake, deed, Allowed, deeds, after, AllAllowed, Formats}
 use Rattle.promises.proofs.Viewing.{wf-shape, wf-sound, shape-wf}
-use Rattle.promises.proofs.UnitMoves.{Goes, unit-goes}
-use Rattle.promises.proofs.RunMoves.{Works, run-works}
+use Rattle.promises.proofs.UnitMoves.{unit-goes}
+use Rattle.promises.proofs.RunMoves.{run-works}
 
 pub after-append : (ds es : List Deed) (h : Heap) → after (ds ++ es) h ≡ after es (after ds h)
 unfolding after

@@ -6,16 +6,15 @@
 use Prim.Native.Nat.{ℕ, zero, suc, _≤_}
 use mathlib.Core.Path.{_≡_, refl, sym, _∙_, ap, subst}
 use mathlib.Core.Logic.{_≢_, ⊎-elim}
-use mathlib.Core.Bool.{Bool, true, false}
 use mathlib.Core.List.{List, [], _∷_, _++_, List·Memᴰ, List·Memᴰ·head, List·Memᴰ·tail, List·Memᴰ·not-nil, List·Memᴰ·cases-cons}
 use lib.Dec.{eqb}
 use lib.ListN.{replicate}
-use Rattle.blocks.specs.Tests.{if_then_else_, _▷_}
+use Rattle.blocks.specs.Tests.{_▷_}
 use Rattle.blocks.specs.Heap.{Heap}
 use Rattle.blocks.specs.Entry.{entry, holderPlace}
 use Rattle.blocks.specs.Units.{run}
 use Rattle.blocks.specs.Read.{readRefusal}
-use Rattle.blocks.specs.Store.{storeRefusal, rootRefusal, putNumber, putReference}
+use Rattle.blocks.specs.Store.{storeRefusal, putNumber, putReference}
 use Rattle.blocks.specs.Allocate.{unitsDue, takeRefusal, taken, held}
 use Rattle.blocks.specs.Work.{countRefusal}
 use Rattle.blocks.specs.WellFormed.{Names, WellFormed}
@@ -23,15 +22,13 @@ use Rattle.blocks.specs.Session.{Call, does, session}
 use Rattle.blocks.specs.Session.Call.{Format, Read, Look, StoreNumber, StoreReference, SetRoot, Allocate, Work, Audit}
 use borrow.Author.Tests.{ne-eqb}
 use Rattle.blocks.proofs.Tests.{if-ind}
-use Rattle.moves.specs.Moves.{Move}
 use Rattle.moves.specs.Safety.{unit-root}
-use Rattle.promises.specs.View.{view}
 use Rattle.promises.specs.Reachable.{Reachable, isRoot, isNamed, SameWord}
 use Rattle.promises.specs.Deeds.{Deed, aUnit, aNumber, aReference, aRoot, aTake, deed, Allowed, AllAllowed, deeds, after}
 use Rattle.promises.specs.Sessions.{Resets}
-use Rattle.promises.specs.Demand2.{TouchesCall, Safe, Chain, last, onto, ChangesRoot, Untouched, ChainLasts, ChainsLast}
+use Rattle.promises.specs.Demand2.{Chain, last, onto, ChangesRoot, Untouched, ChainLasts, ChainsLast}
 use Rattle.promises.proofs.Viewing.{wf-shape, wf-sound}
-use Rattle.promises.proofs.DeedMoves.{DeedMove, barrier-keeps, deed-move, deed-formed}
+use Rattle.promises.proofs.DeedMoves.{barrier-keeps, deed-move, deed-formed}
 use Rattle.promises.proofs.Calls.{deeds-allowed}
 use Rattle.promises.proofs.Keeping.{call-formed}
 use Rattle.promises.proofs.Losing.{word-join, call-safe}

@@ -6,13 +6,13 @@
 --     chain-pop, pop-length    the first is taken off
 -- Assumes nothing.
 use Prim.Native.Nat.{ℕ, suc}
-use mathlib.Core.Path.{_≡_, refl, sym, _∙_, ap, subst}
-use mathlib.Core.Logic.{_≢_, _↔_, _⊎_, inl, inr, ⊎-elim}
-use mathlib.Core.List.{List, [], _∷_, List·Memᴰ, List·Memᴰ·head, List·Memᴰ·tail, List·Memᴰ·not-nil, List·Memᴰ·cases-cons}
+use mathlib.Core.Path.{_≡_, refl, sym, ap, subst}
+use mathlib.Core.Logic.{_≢_, _↔_, ⊎-elim}
+use mathlib.Core.List.{List, _∷_, List·Memᴰ, List·Memᴰ·head, List·Memᴰ·tail, List·Memᴰ·cases-cons}
 use lib.ListN.{length}
 use Rattle.blocks.specs.WellFormed.{Listed, ends, goes, Exactly}
 use Rattle.blocks.proofs.Tests.{by-eq}
-use Rattle.meaning.proofs.Lists.{Distinct, empty, more, listed-distinct}
+use Rattle.meaning.proofs.Lists.{Distinct, more, listed-distinct}
 
 pub listed-same : {next next′ : ℕ → ℕ} {end a : ℕ} {l : List ℕ} → Listed next end a l → ((x : ℕ) → List·Memᴰ x l → next′ x ≡ next x) → Listed next′ end a l
 listed-same (ends e) same = ends e

@@ -3,30 +3,23 @@
 --     garbage-goes             the promise, over sessions
 -- Assumes nothing.
 use Prim.Native.Nat.{ℕ}
-use mathlib.Core.Path.{_≡_, refl, sym, _∙_, ap, subst}
-use mathlib.Core.List.{List, [], _∷_, _++_}
-use native.Mathlib.Omega.{arith}
+use mathlib.Core.Path.{_≡_, refl, sym, subst}
+use mathlib.Core.List.{List, _∷_, _++_}
 use Rattle.blocks.specs.Registers.{idle}
 use Rattle.blocks.specs.Heap.{Heap}
 use Rattle.blocks.specs.WellFormed.{Block, WellFormed}
-use Rattle.blocks.specs.Session.{Call}
 use Rattle.reach.specs.Sums as sums
 use Rattle.moves.specs.Tints as tints
-use Rattle.moves.specs.Heaps.{Abs}
-use Rattle.moves.specs.Moves.{Move, Begin}
-use Rattle.moves.specs.Kinds.{begun, begins?}
 use Rattle.moves.specs.Garbage as garbage
-use Rattle.promises.specs.View.{view}
 use Rattle.promises.specs.Reachable.{Reachable, IsFree}
 use Rattle.promises.specs.Deeds.{Deed, aUnit, deed, AllAllowed, after}
-use Rattle.promises.specs.Sessions.{NoReset, sessionDeeds, Proper, NoBegin, FreedBy, later}
+use Rattle.promises.specs.Sessions.{Proper, NoBegin, FreedBy, later}
 use Rattle.promises.specs.Demand2.{GarbageGoes}
 use Rattle.promises.proofs.Viewing.{there, wf-shape, wf-sound}
 use Rattle.promises.proofs.Reaching.{view-reachable, view-free}
-use Rattle.promises.proofs.MarkingMoves.{begin-move}
 use Rattle.promises.proofs.UnitMoves.{unit-begins}
-use Rattle.promises.proofs.DeedMoves.{DeedMove, deed-move, deed-formed}
-use Rattle.promises.proofs.Courses.{Ran, freed-at, deeds-run, deeds-formed, allowed-left, allowed-right, session-is}
+use Rattle.promises.proofs.DeedMoves.{deed-move, deed-formed}
+use Rattle.promises.proofs.Courses.{freed-at, deeds-run, allowed-left, allowed-right, session-is}
 
 pub cycle-collects : (h : Heap) → WellFormed h → (ys : List Deed) → AllAllowed ys (deed aUnit h)
     → h .regs .phase ≡ idle → NoBegin ys (deed aUnit h) → after ys (deed aUnit h) .regs .phase ≡ idle → Proper ys (deed aUnit h)

@@ -5,19 +5,16 @@
 -- Assumes nothing.
 use Prim.Native.Nat.{ℕ, zero, suc, _+_, _≤_, _<_}
 use mathlib.Core.Path.{_≡_, refl, sym, _∙_, ap}
-use mathlib.Core.Logic.{_≢_, _↔_}
-use mathlib.Core.Bool.{Bool, true, false}
+use mathlib.Core.Logic.{_≢_}
+use mathlib.Core.Bool.{Bool}
 use native.Mathlib.Numerals.{add-one}
 use native.Mathlib.Omega.{arith}
-use lib.ListN.{length}
-use Rattle.blocks.specs.declared.Colour.{Colour}
-use Rattle.blocks.specs.declared.Colour.the-variants.{Free, Outside}
+use Rattle.blocks.specs.declared.Colour.the-variants.{Free}
 use Rattle.blocks.specs.Tests.{if_then_else_}
 use Rattle.blocks.specs.Heap.{Heap, colourOf}
 use Rattle.blocks.specs.Audit.{countFrom, isFree}
 use Rattle.blocks.specs.WellFormed.{Block, Coloured}
 use Rattle.blocks.proofs.Tests.{by-test, clash}
-use Rattle.blocks.proofs.Steps.{never}
 use Rattle.meaning.proofs.Frees.{nextFree, free-tests}
 use Rattle.meaning.proofs.Exact.{exact-length}
 use Rattle.reach.specs.Sums.{sum, Within, total, total-down, total-ones}
@@ -26,7 +23,7 @@ use Rattle.moves.specs.Tints.{Tint}
 use Rattle.moves.specs.Tints as tints
 use Rattle.moves.specs.Bounds.{lies, unused}
 use Rattle.promises.specs.View.{tintOf, view, Shape}
-use Rattle.promises.proofs.Viewing.{here, there}
+use Rattle.promises.proofs.Viewing.{there}
 use Rattle.promises.proofs.Recolouring.{free-of, of-free}
 
 abbrev pub one : Bool → ℕ

@@ -8,28 +8,24 @@
 use Prim.Native.Nat.{ℕ, _+_}
 use mathlib.Core.Path.{_≡_, refl, sym, _∙_, ap, subst}
 use mathlib.Core.Logic.{_≢_, _⊎_, inl, inr, ⊎-elim}
-use mathlib.Core.Bool.{true, false}
 use mathlib.Core.List.{List, [], _∷_, _++_}
 use lib.ListN.{length}
-use Rattle.blocks.specs.Tests.{if_then_else_}
 use Rattle.blocks.specs.Heap.{Heap}
-use Rattle.blocks.specs.Entry.{heapFits, fits}
-use Rattle.blocks.specs.Format.{format, formatted}
+use Rattle.blocks.specs.Entry.{fits}
+use Rattle.blocks.specs.Format.{format}
 use Rattle.blocks.specs.WellFormed.{Block, WellFormed}
 use Rattle.blocks.specs.Session.{Call, does, session}
 use Rattle.blocks.specs.Session.Call.{Format, Read, Look, StoreNumber, StoreReference, SetRoot, Allocate, Work, Audit}
 use Rattle.blocks.proofs.Tests.{by-test}
 use Rattle.reach.specs.Sums as sums
 use Rattle.moves.specs.Tints as tints
-use Rattle.moves.specs.Heaps.{Abs, Sound, Reached}
-use Rattle.moves.specs.Moves.{Move}
-use Rattle.moves.specs.Kinds.{cost, begun, target}
-use Rattle.moves.specs.Runs.{Run, rest, step, units, begins, marks, ProperRun, FreedIn, freed-now, freed-later, OnlyUnits}
-use Rattle.promises.specs.View.{view, Shape}
-use Rattle.promises.specs.Reachable.{Reachable, IsFree}
-use Rattle.promises.specs.Deeds.{Deed, aUnit, aNumber, aReference, aRoot, aTake, deed, Allowed, AllAllowed, costs, names, deeds, after, Formats}
-use Rattle.promises.specs.Sessions.{Resets, NoReset, sessionDeeds, Proper, Begins, NoBegin, FreedBy, now, later, unitsIn, marksIn, marking?}
-use Rattle.promises.proofs.Viewing.{here, there, wf-shape, wf-sound}
+use Rattle.moves.specs.Heaps.{Abs, Reached}
+use Rattle.moves.specs.Kinds.{cost, target}
+use Rattle.moves.specs.Runs.{Run, rest, step, units, begins, marks, ProperRun, FreedIn, freed-now, freed-later}
+use Rattle.promises.specs.View.{view}
+use Rattle.promises.specs.Deeds.{Deed, aUnit, aNumber, aReference, aRoot, aTake, deed, AllAllowed, costs, deeds, after}
+use Rattle.promises.specs.Sessions.{Resets, NoReset, sessionDeeds, Proper, NoBegin, FreedBy, now, later, unitsIn, marksIn, marking?}
+use Rattle.promises.proofs.Viewing.{here, wf-shape, wf-sound}
 use Rattle.promises.proofs.Reaching.{reachable-view, free-view, view-free}
 use Rattle.promises.proofs.DeedMoves.{DeedMove, deed-move, deed-formed}
 use Rattle.promises.proofs.Calls.{after-append, allowed-append, calls-are-deeds, deeds-allowed}

@@ -4,17 +4,15 @@
 --     deed-move                every allowed deed is one
 --     deed-formed              an allowed deed leaves a well-formed heap well-formed
 -- Assumes nothing.
-use Prim.Native.Nat.{ℕ, _+_, _≤_}
+use Prim.Native.Nat.{ℕ, _≤_}
 use mathlib.Core.Path.{_≡_, refl, sym, _∙_, ap, subst}
 use mathlib.Core.Logic.{_≢_}
-use mathlib.Core.List.{List, [], _∷_}
+use mathlib.Core.List.{[]}
 use native.Mathlib.Omega.{arith}
 use lib.Dec.{eqb}
 use Rattle.blocks.specs.declared.Regs.{Regs}
-use Rattle.blocks.specs.Tests.{if_then_else_}
 use Rattle.blocks.specs.Registers.{idle}
-use Rattle.blocks.specs.Heap.{Heap, heap}
-use Rattle.blocks.specs.Entry.{holderPlace}
+use Rattle.blocks.specs.Heap.{Heap}
 use Rattle.blocks.specs.Store.{barrier, putNumber, putReference}
 use Rattle.blocks.specs.Allocate.{taken, held}
 use Rattle.blocks.specs.WellFormed.{Block, WellFormed}
@@ -32,7 +30,7 @@ use Rattle.promises.specs.View.{view, Shape}
 use Rattle.promises.specs.Deeds.{Deed, aUnit, aNumber, aReference, aRoot, aTake, deed, Allowed, costs, names, takes, Touches}
 use Rattle.promises.specs.Sessions.{Begins, marking?}
 use Rattle.promises.proofs.Viewing.{wf-shape, wf-sound, shape-wf}
-use Rattle.promises.proofs.UnitMoves.{Goes, unit-goes}
+use Rattle.promises.proofs.UnitMoves.{unit-goes}
 use Rattle.promises.proofs.StoringMoves.{number-move, number-shape, reference-move, reference-shape, root-move, root-shape}
 use Rattle.promises.proofs.TakingMoves.{take-root, take-held, take-shape}
 
@@ -104,7 +102,8 @@ deed-move h p s (aNumber b w v) a =
       taking = refl;
       writes = λ c u x. (x .block, x .word);
       frees = λ z c l n e. n (sym (number-move h p b w v a .tints c l) ∙ e);
-      begins = λ n. refl; marks = refl;
+      begins = λ n. refl;
+      marks = refl;
     }
 deed-move h p s (aReference b w t) a =
     record {
@@ -117,7 +116,8 @@ deed-move h p s (aReference b w t) a =
       taking = refl;
       writes = λ c u x. (x .block, x .word);
       frees = λ z c l n e. n (was-free (reference-move h p t b w a .tints c l) e);
-      begins = λ n. refl; marks = refl;
+      begins = λ n. refl;
+      marks = refl;
     }
 deed-move h p s (aRoot t) a =
     record {
@@ -130,7 +130,8 @@ deed-move h p s (aRoot t) a =
       taking = refl;
       writes = λ c u x. x;
       frees = λ z c l n e. n (was-free (root-move h p t a .tints c l) e);
-      begins = λ n. refl; marks = refl;
+      begins = λ n. refl;
+      marks = refl;
     }
 deed-move h p s (aTake b w) a =
     let k = held b w (h .regs .free) (taken h) in
@@ -149,7 +150,8 @@ deed-move h p s (aTake b w) a =
       taking = refl;
       writes = λ c u x. absurd x;
       frees = λ q c k n e. taken-kept (take-root h p b w (a .1) z .taken) c k n e;
-      begins = λ n. refl; marks = refl;
+      begins = λ n. refl;
+      marks = refl;
     })
     (λ z.
     record {
@@ -162,7 +164,8 @@ deed-move h p s (aTake b w) a =
       taking = refl;
       writes = λ c u x. (x .block, x .word);
       frees = λ q c k n e. taken-kept (take-held h p b w (a .1) z (l z .0) (l z .1) .taken) c k n e;
-      begins = λ n. refl; marks = refl;
+      begins = λ n. refl;
+      marks = refl;
     })
 
 pub deed-formed : (h : Heap) → WellFormed h → (d : Deed) → Allowed d h → WellFormed (deed d h)

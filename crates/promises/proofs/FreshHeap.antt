@@ -5,23 +5,23 @@
 -- Assumes nothing.
 use Prim.Native.Nat.{ℕ, zero, suc, _+_, _-_, _*_, _≤_, _<_}
 use mathlib.Core.Path.{_≡_, refl, sym, _∙_, ap, subst}
-use mathlib.Core.Logic.{_≢_, _↔_, ⊎-elim}
-use mathlib.Core.Bool.{Bool, true, false, _&&_}
+use mathlib.Core.Logic.{⊎-elim}
+use mathlib.Core.Bool.{false, _&&_}
 use mathlib.Core.List.{List, [], _∷_, _++_, List·Memᴰ, List·Memᴰ·head, List·Memᴰ·tail, List·Memᴰ·not-nil, List·Memᴰ·cases-cons}
 use native.Mathlib.Nat.{zero-div}
 use native.Mathlib.Omega.{arith}
 use lib.Dec.{eqb, leb}
 use lib.ListN.{length, getD, replicate, length-append, length-replicate, getD-replicate, List·getD-append}
 use lib.Seq.{getD-append-add}
-use borrow.Author.Tests.{eq-eqb, ne-eqb}
-use Rattle.blocks.specs.declared.Colour.the-variants.{White, Grey, Black, Free, Outside}
+use borrow.Author.Tests.{ne-eqb}
+use Rattle.blocks.specs.declared.Colour.the-variants.{Free}
 use Rattle.blocks.specs.Tests.{if_then_else_}
-use Rattle.blocks.specs.Registers.{idle, marking}
+use Rattle.blocks.specs.Registers.{idle}
 use Rattle.blocks.specs.Block.{wordOf, byteOf, bit, freeWords}
-use Rattle.blocks.specs.Colouring.{freed, colour, colourWord, headLegal}
-use Rattle.blocks.specs.Heap.{Heap, colourOf}
+use Rattle.blocks.specs.Colouring.{freed, colour, colourWord}
+use Rattle.blocks.specs.Heap.{Heap}
 use Rattle.blocks.specs.Format.{freeList, formatted}
-use Rattle.blocks.specs.WellFormed.{Block, Coloured, Listed, ends, goes, LaidOut, Exactly, WellFormed}
+use Rattle.blocks.specs.WellFormed.{Block, Listed, ends, goes, WellFormed}
 use Rattle.blocks.specs.Ready.{Ready}
 use Rattle.blocks.proofs.Tests.{by-eq, by-test}
 use Rattle.blocks.proofs.Bytes.{below-eight}

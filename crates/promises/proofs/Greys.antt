@@ -8,18 +8,16 @@
 --     black-list, black-here, black-there     the first grey block made black
 --     plain-list               a block painted that was not grey and isn't grey then
 -- Assumes nothing.
-use Prim.Native.Nat.{ℕ, _+_, _≤_, _<_}
+use Prim.Native.Nat.{ℕ, _+_, _≤_}
 use mathlib.Core.Path.{_≡_, refl, sym, _∙_, ap, subst}
-use mathlib.Core.Logic.{_≢_, _↔_, _⊎_, inl, inr, ⊎-elim}
-use mathlib.Core.Bool.{Bool, true, false, _&&_}
+use mathlib.Core.Logic.{_≢_, _⊎_, inl, inr, ⊎-elim}
+use mathlib.Core.Bool.{true, _&&_}
 use mathlib.Core.List.{List, [], _∷_, List·Memᴰ, List·Memᴰ·head, List·Memᴰ·tail, List·Memᴰ·not-nil, List·Memᴰ·cases-cons}
 use native.Mathlib.Omega.{arith}
 use lib.Dec.{eqb, leb}
 use lib.ListN.{length}
 use borrow.Author.Tests.{eqb-true, eq-eqb, leb-true, leb-false}
-use Rattle.blocks.specs.declared.Colour.{Colour}
-use Rattle.blocks.specs.declared.Colour.the-variants.{White, Grey, Black, Free, Outside}
-use Rattle.blocks.specs.Tests.{if_then_else_}
+use Rattle.blocks.specs.declared.Colour.the-variants.{White, Grey, Black, Outside}
 use Rattle.blocks.specs.Registers.{marking}
 use Rattle.blocks.specs.Block.{isBlock}
 use Rattle.blocks.specs.Colouring.{Colouring, white, black, freed, colour, colourWord, paint, toGrey, toBlack, greyWhite, greyAll, headLegal}

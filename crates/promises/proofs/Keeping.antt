@@ -4,29 +4,28 @@
 --     calls-keep                      the promise
 -- Assumes nothing.
 use Prim.Native.Nat.{ℕ, _≤_}
-use mathlib.Core.Path.{_≡_, refl, sym, _∙_, ap, subst}
+use mathlib.Core.Path.{_≡_, sym, subst}
 use mathlib.Core.Logic.{_≢_}
-use mathlib.Core.Bool.{Bool, true, false, _&&_}
+use mathlib.Core.Bool.{true, _&&_}
 use mathlib.Core.List.{List, [], _∷_}
 use native.Mathlib.Omega.{arith}
 use lib.Dec.{eqb, leb}
 use lib.ListN.{length}
-use borrow.Author.Tests.{eqb-true, eqb-false, eq-eqb, ne-eqb, leb-true}
-use Rattle.blocks.specs.Tests.{if_then_else_, _▷_}
+use borrow.Author.Tests.{eqb-true, leb-true}
+use Rattle.blocks.specs.Tests.{_▷_}
 use Rattle.blocks.specs.Heap.{Heap}
 use Rattle.blocks.specs.Entry.{numbersFit, lengthsFit, fits, entry, wordRefusal, holderPlace, targetPlace, isBlockOrNone}
 use Rattle.blocks.specs.Block.{isBlock}
 use Rattle.blocks.specs.declared.ReadAnswer.{ReadAnswer}
-use Rattle.blocks.specs.Answers.{Given, unless, refuse, done}
+use Rattle.blocks.specs.Answers.{Given, unless}
 use Rattle.blocks.specs.Units.{RunEnd, run}
-use Rattle.blocks.specs.Format.{formatted, format}
-use Rattle.blocks.specs.Read.{readRefusal, readAnswer, readRefused, read}
-use Rattle.blocks.specs.Standing.{holderRefusal, targetRefusal}
+use Rattle.blocks.specs.Format.{format}
+use Rattle.blocks.specs.Read.{readRefusal, readAnswer, read}
 use Rattle.blocks.specs.Store.{storeRefusal, rootRefusal, storeNumber, storeReference, setRoot}
 use Rattle.blocks.specs.Allocate.{unitsDue, takeRefusal, allocated, allocate}
 use Rattle.blocks.specs.Work.{countRefusal, worked, work}
 use Rattle.blocks.specs.Audit.{audit}
-use Rattle.blocks.specs.WellFormed.{Block, WellFormed}
+use Rattle.blocks.specs.WellFormed.{WellFormed}
 use Rattle.blocks.specs.Session.{Call, does, session}
 use Rattle.blocks.specs.Session.Call.{Format, Read, Look, StoreNumber, StoreReference, SetRoot, Allocate, Work, Audit}
 use Rattle.blocks.proofs.Tests.{both-true, if-ind}

@@ -6,13 +6,11 @@
 --     nothing-lost             the promise
 -- Assumes nothing.
 use Prim.Native.Nat.{ℕ, zero, suc, _≤_}
-use mathlib.Core.Path.{_≡_, refl, sym, _∙_, ap, subst}
-use mathlib.Core.Logic.{_≢_}
-use mathlib.Core.Bool.{Bool, true, false}
+use mathlib.Core.Path.{_≡_, refl, sym, _∙_, subst}
 use mathlib.Core.List.{List, [], _∷_, _++_}
 use lib.Dec.{eqb}
 use lib.ListN.{take, replicate}
-use Rattle.blocks.specs.Tests.{if_then_else_, _▷_}
+use Rattle.blocks.specs.Tests.{_▷_}
 use Rattle.blocks.specs.Heap.{Heap}
 use Rattle.blocks.specs.Entry.{entry, holderPlace}
 use Rattle.blocks.specs.Units.{run}
@@ -21,12 +19,11 @@ use Rattle.blocks.specs.Store.{storeRefusal, rootRefusal}
 use Rattle.blocks.specs.Allocate.{unitsDue, takeRefusal}
 use Rattle.blocks.specs.Work.{countRefusal}
 use Rattle.blocks.specs.WellFormed.{Live, WellFormed}
-use Rattle.blocks.specs.Session.{Call, does, session}
+use Rattle.blocks.specs.Session.{Call, session}
 use Rattle.blocks.specs.Session.Call.{Format, Read, Look, StoreNumber, StoreReference, SetRoot, Allocate, Work, Audit}
 use Rattle.blocks.proofs.Tests.{if-ind}
-use Rattle.moves.specs.Heaps.{Sound, reached-live}
+use Rattle.moves.specs.Heaps.{reached-live}
 use Rattle.moves.specs.Safety.{reached-kept, reached-cells, unit-over, unit-back}
-use Rattle.promises.specs.View.{view}
 use Rattle.promises.specs.Reachable.{Reachable, IsFree, SameWord}
 use Rattle.promises.specs.Deeds.{Deed, aUnit, aNumber, aReference, aRoot, aTake, deed, Allowed, AllAllowed, Touches, deeds, after}
 use Rattle.promises.specs.Sessions.{Resets}

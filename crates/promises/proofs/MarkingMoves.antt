@@ -3,21 +3,19 @@
 --     mark-move, mark-shape       the first grey block is marked
 --     turn-move, turn-shape       the sweep begins
 -- Assumes nothing.
-use Prim.Native.Nat.{ℕ, _+_, _≤_}
+use Prim.Native.Nat.{ℕ}
 use mathlib.Core.Path.{_≡_, refl, sym, _∙_, ap, subst}
 use mathlib.Core.Logic.{_≢_, _↔_}
-use mathlib.Core.Bool.{true, false}
-use mathlib.Core.List.{List, List·Memᴰ}
+use mathlib.Core.List.{List·Memᴰ}
 use native.Mathlib.Omega.{arith}
 use lib.Dec.{eqb}
-use lib.ListN.{length, length-set}
+use lib.ListN.{length-set}
 use borrow.Author.Tests.{eq-eqb, ne-eqb}
-use Rattle.blocks.specs.declared.Colour.the-variants.{White, Grey, Black, Free, Outside}
+use Rattle.blocks.specs.declared.Colour.the-variants.{Grey, Black, Free, Outside}
 use Rattle.blocks.specs.Tests.{if_then_else_}
-use Rattle.blocks.specs.Registers.{idle, marking, sweeping, withPhase, withGrey, withPosition, withCycle, nextCycle}
-use Rattle.blocks.specs.Block.{isBlock}
-use Rattle.blocks.specs.Colouring.{Colouring, white, colour, colourWord, toGrey, toBlack, greyWhite, greyAll}
-use Rattle.blocks.specs.Heap.{Heap, heap, colouring, withRegs, withColouring, colourOf, referencesOf}
+use Rattle.blocks.specs.Registers.{idle, marking}
+use Rattle.blocks.specs.Colouring.{white, colour, colourWord, toGrey, toBlack, greyWhite, greyAll}
+use Rattle.blocks.specs.Heap.{Heap, colouring, colourOf, referencesOf}
 use Rattle.blocks.specs.WellFormed.{Block}
 use Rattle.blocks.specs.OneUnit.{metBlock, metWord, begun, marked, turned}
 use Rattle.blocks.proofs.Tests.{by-eq}
@@ -29,12 +27,12 @@ use Rattle.meaning.proofs.Words.{names-member, member-names}
 use Rattle.reach.specs.Sums as sums
 use Rattle.moves.specs.Tints.{Turned, stays-free, was-free, stays-black}
 use Rattle.moves.specs.Tints as tints
-use Rattle.moves.specs.Moves.{SameCells, Begin, Mark, Turn}
+use Rattle.moves.specs.Moves.{Begin, Mark, Turn}
 use Rattle.moves.specs.Moves as moves
 use Rattle.promises.specs.View.{tintOf, view, Shape}
 use Rattle.promises.proofs.Viewing.{here, there, names-ref, ref-names, tinted}
-use Rattle.promises.proofs.Greys.{TintIn, GreyList, Greying, turned-as, greying-white, greying-all, black-here, black-there, black-list}
-use Rattle.promises.proofs.Recolouring.{of-greys, none-listed, recoloured, bare}
+use Rattle.promises.proofs.Greys.{TintIn, Greying, turned-as, greying-white, greying-all, black-here, black-there, black-list}
+use Rattle.promises.proofs.Recolouring.{of-greys, none-listed, recoloured}
 
 module _ (h : Heap) (p : Shape h) where
   abbrev m : ℕ

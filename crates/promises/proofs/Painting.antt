@@ -6,13 +6,13 @@
 --     eight-set, eight-kept    the same of a block's eight words
 -- Assumes nothing.
 use Prim.Native.Nat.{ℕ, _+_, _-_, _*_, _≤_, _<_}
-use mathlib.Core.Path.{_≡_, refl, sym, _∙_, ap}
+use mathlib.Core.Path.{_≡_, sym, _∙_, ap}
 use mathlib.Core.Logic.{_≢_, _⊎_, ⊎-elim}
 use mathlib.Core.List.{List, _++_}
 use native.Mathlib.Omega.{arith}
 use lib.Dec.{leb}
 use borrow.Author.Tests.{leb-true, leb-false}
-use lib.ListN.{length, getD, set, take, drop, length-take, List·getD-append}
+use lib.ListN.{length, getD, set, take, drop, List·getD-append}
 use lib.Seq.{getD-set-same, getD-set-other, getD-take, getD-drop, getD-append-add, length-take-le}
 use Rattle.blocks.specs.Block.{index, base, place, wordOf, byteOf, withEight}
 use Rattle.blocks.specs.Colouring.{colourWord, paint}

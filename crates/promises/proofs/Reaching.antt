@@ -4,18 +4,16 @@
 --     same-word                          a word and its bit that are the same in the view
 -- Assumes nothing.
 use Prim.Native.Nat.{ℕ, _≤_}
-use mathlib.Core.Path.{_≡_, refl, sym, _∙_, ap}
-use mathlib.Core.Logic.{_≢_}
-use mathlib.Core.Bool.{true}
+use mathlib.Core.Path.{_≡_}
 use borrow.Author.Tests.{le-leb}
-use Rattle.blocks.specs.declared.Colour.the-variants.{Free, Outside}
-use Rattle.blocks.specs.Heap.{Heap, colourOf}
-use Rattle.blocks.specs.WellFormed.{Block, Coloured}
-use Rattle.reach.specs.Reaching.{Reach, at-root, along}
+use Rattle.blocks.specs.declared.Colour.the-variants.{Free}
+use Rattle.blocks.specs.Heap.{Heap}
+use Rattle.blocks.specs.WellFormed.{Block}
+use Rattle.reach.specs.Reaching.{at-root, along}
 use Rattle.moves.specs.Tints as tints
 use Rattle.moves.specs.Heaps.{Reached}
 use Rattle.moves.specs.Safety.{SameCell}
-use Rattle.promises.specs.View.{tintOf, view, Shape}
+use Rattle.promises.specs.View.{view, Shape}
 use Rattle.promises.specs.Reachable.{Reachable, isRoot, isNamed, IsFree, SameWord}
 use Rattle.promises.proofs.Viewing.{names-ref, ref-names}
 use Rattle.promises.proofs.Recolouring.{free-of, of-free}

@@ -9,12 +9,10 @@
 use Prim.Native.Nat.{ℕ}
 use mathlib.Core.Path.{_≡_, refl, sym, _∙_, ap, subst}
 use mathlib.Core.Logic.{_≢_, _↔_}
-use mathlib.Core.List.{List, [], List·Memᴰ, List·Memᴰ·head, List·Memᴰ·not-nil}
+use mathlib.Core.List.{List, List·Memᴰ, List·Memᴰ·head, List·Memᴰ·not-nil}
 use lib.ListN.{length}
 use Rattle.blocks.specs.declared.Regs.{Regs}
-use Rattle.blocks.specs.declared.Colour.{Colour}
 use Rattle.blocks.specs.declared.Colour.the-variants.{Grey, Free, Outside}
-use Rattle.blocks.specs.Block.{wordOf}
 use Rattle.blocks.specs.Colouring.{colour, colourWord}
 use Rattle.blocks.specs.Heap.{Heap, heap, colouring, colourOf}
 use Rattle.blocks.specs.WellFormed.{Block, Coloured, Listed, ends, goes, Exactly}

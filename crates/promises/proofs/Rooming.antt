@@ -4,20 +4,20 @@
 --     call-pays                an allocation does its units before it takes
 --     room-enough, margin      the promises
 -- Assumes nothing.
-use Prim.Native.Nat.{ℕ, zero, suc, _+_, _-_, _*_, _/_, _%_, _≤_, _<_}
+use Prim.Native.Nat.{ℕ, zero, suc, _+_, _-_, _*_, _/_, _≤_}
 use mathlib.Core.Path.{_≡_, refl, sym, _∙_, ap, subst}
 use mathlib.Core.Logic.{_≢_}
-use mathlib.Core.Bool.{Bool, true, false, _&&_}
+use mathlib.Core.Bool.{_&&_}
 use mathlib.Core.List.{List, [], _∷_, _++_}
 use native.Mathlib.Nat.{div-add-mod, mod-lt}
 use native.Mathlib.Omega.{arith}
 use lib.Dec.{eqb, leb}
 use lib.ListN.{length, replicate}
-use borrow.Author.Tests.{eqb-true, ne-eqb}
+use borrow.Author.Tests.{ne-eqb}
 use Rattle.blocks.specs.declared.Regs.{Regs}
 use Rattle.blocks.specs.declared.Standing.{Standing}
 use Rattle.blocks.specs.declared.Standing.the-variants.{Live, Gone, Damaged}
-use Rattle.blocks.specs.Tests.{if_then_else_, _▷_}
+use Rattle.blocks.specs.Tests.{_▷_}
 use Rattle.blocks.specs.Heap.{Heap}
 use Rattle.blocks.specs.Standing.{standingOf, refusalOf, holderRefusal}
 use Rattle.blocks.specs.Block.{isBlock}
@@ -26,24 +26,22 @@ use Rattle.blocks.specs.Answers.{Given, unless}
 use Rattle.blocks.specs.Units.{RunEnd, run}
 use Rattle.blocks.specs.Read.{readRefusal}
 use Rattle.blocks.specs.Store.{storeRefusal, rootRefusal}
-use Rattle.blocks.specs.Allocate.{unitsDue, listRefusal, takeRefusal, allocated, allocate}
+use Rattle.blocks.specs.Allocate.{unitsDue, takeRefusal, allocated, allocate}
 use Rattle.blocks.specs.Work.{countRefusal}
-use Rattle.blocks.specs.WellFormed.{Block, WellFormed}
+use Rattle.blocks.specs.WellFormed.{WellFormed}
 use Rattle.blocks.specs.Format.{formatted}
 use Rattle.blocks.specs.Session.{Call, does, session}
 use Rattle.blocks.specs.Session.Call.{Format, Read, Look, StoreNumber, StoreReference, SetRoot, Allocate, Work, Audit}
-use Rattle.blocks.proofs.Tests.{if-ind, by-eq}
+use Rattle.blocks.proofs.Tests.{if-ind}
 use Rattle.blocks.proofs.Entering.{ready-entry}
 use Rattle.moves.specs.Heaps.{Abs, Sound, Reached}
-use Rattle.moves.specs.Moves.{Move}
 use Rattle.moves.specs.Kinds.{cost, taking}
 use Rattle.moves.specs.Runs.{Run, rest, step, units, taken, ProperRun, OnlyUnits}
 use Rattle.moves.specs.Bounds.{unused}
 use Rattle.moves.specs.Taking as moves-taking
 use Rattle.moves.specs.Room.{Event, Session, over, next, Settled, fresh-settled, enough-room, room-margin}
 use Rattle.promises.specs.View.{view, Shape}
-use Rattle.promises.specs.Reachable.{Reachable}
-use Rattle.promises.specs.Deeds.{Deed, aUnit, aNumber, aReference, aRoot, aTake, deed, Allowed, AllAllowed, costs, deeds, after}
+use Rattle.promises.specs.Deeds.{Deed, aUnit, aNumber, aReference, aRoot, aTake, deed, AllAllowed, costs, deeds, after}
 use Rattle.promises.specs.Sessions.{Resets, NoReset, Proper, unitsIn}
 use Rattle.promises.specs.Demand3.{cycles, Few, Good, Premises, RoomEnough, Margin}
 use Rattle.promises.proofs.Viewing.{wf-shape, wf-sound}
@@ -106,7 +104,7 @@ last-split m h d ds v c e = subst (λ (es : List Deed). Split m h (d ∷ es)) (s
       still = ap (λ (x : ℕ). x + 0) (v .cost ∙ c);
       proper = λ p. (λ n. subst (Reached (view h)) (sym (v .target)) (reachable-view (p .0 (λ z. n (v .target ∙ z)))), tt);
       takes = take-length m h d v ∙ omega arith;
-      long = omega arith
+      long = omega arith;
     })
 
 deeds-split : (m : ℕ) (ds : List Deed) (h : Heap) → h .regs .blocks ≡ m → WellFormed h → AllAllowed ds h → Tame ds → Split m h ds
@@ -124,7 +122,7 @@ deeds-split m (aUnit ∷ ds) h e f a t =
       still = q .still;
       proper = λ p. q .proper (p .1);
       takes = q .takes ∙ omega arith;
-      long = ap (λ (x : ℕ). x + units (q .work)) (v .cost) ∙ ap (λ (x : ℕ). 1 + x) (q .long)
+      long = ap (λ (x : ℕ). x + units (q .work)) (v .cost) ∙ ap (λ (x : ℕ). 1 + x) (q .long);
     }
 deeds-split m (aNumber b w x ∷ ds) h e f a t = last-split m h (aNumber b w x) ds (subst (λ (n : ℕ). DeedMove n h (aNumber b w x)) e (deed-move h (wf-shape h f) (wf-sound h f) (aNumber b w x) (a .0))) refl t
 deeds-split m (aReference b w x ∷ ds) h e f a t = last-split m h (aReference b w x) ds (subst (λ (n : ℕ). DeedMove n h (aReference b w x)) e (deed-move h (wf-shape h f) (wf-sound h f) (aReference b w x) (a .0))) refl t
@@ -164,8 +162,8 @@ call-pays u (Allocate b w) h l e =
     let d : n ≡ u = due-pace (h .regs) (omega arith) ∙ e in
     if-ind (Pays u) (eqb (entry h ▷ holderPlace (h .regs .blocks) b w) 0)
     (λ t. if-ind (λ (ds : List Deed). Pays u (replicate n aUnit ++ ds)) (eqb (takeRefusal b (run n 0 h .heap)) 0)
-      (λ q. let c = units-count n (aTake b w ∷ []) in record { most = omega arith; paid = rw (c .1) (omega arith) })
-      (λ q. let c = units-count n [] in none-pays u (replicate n aUnit ++ []) (c .1)))
+    (λ q. let c = units-count n (aTake b w ∷ []) in record { most = omega arith; paid = rw (c .1) (omega arith) })
+    (λ q. let c = units-count n [] in none-pays u (replicate n aUnit ++ []) (c .1)))
     (λ t. none-pays u [] refl)
 call-pays u (Work k) h l e = if-ind (Pays u) (eqb (entry h ▷ countRefusal k) 0) (λ t. none-pays u (replicate k aUnit) (only-units-take k)) (λ t. none-pays u [] refl)
 call-pays u Audit h l e = none-pays u [] refl
@@ -187,7 +185,7 @@ call-event m u c h l e q f n p =
       still = s .still;
       proper = s .proper p;
       most = omega (arith, s .takes, y .most);
-      pace = rw (s .takes, s .long) (y .paid)
+      pace = rw (s .takes, s .long) (y .paid);
     })
 
 -- M and the pace after a call
@@ -213,7 +211,7 @@ session-held m u k (c ∷ cs) h l e q f n g =
       events = next (call-event m u c h l e q f (n .0) (g .0 .0)) (few-view k (does c h .heap) (g .0 .1)) (r .events);
       blocks = r .blocks;
       pace = r .pace;
-      formed = r .formed
+      formed = r .formed;
     }
 
 -- a block to read or write that is free or doomed, or damaged, is refused by 5 or 8

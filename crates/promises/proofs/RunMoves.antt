@@ -4,18 +4,13 @@
 -- Assumes nothing.
 use Prim.Native.Nat.{ℕ, zero, suc, _+_}
 use mathlib.Core.Path.{_≡_, refl, sym, _∙_, ap, subst}
-use mathlib.Core.Bool.{true, false}
-use native.Mathlib.Numerals.{add-one}
 use native.Mathlib.Omega.{arith}
-use Rattle.blocks.specs.Tests.{if_then_else_}
 use Rattle.blocks.specs.Heap.{Heap}
 use Rattle.blocks.specs.OneUnit.{unit}
 use Rattle.blocks.specs.Units.{RunEnd, stopped, run}
 use Rattle.blocks.proofs.Tests.{if-true}
-use Rattle.moves.specs.Heaps.{Abs, Sound}
-use Rattle.moves.specs.Moves.{Move}
+use Rattle.moves.specs.Heaps.{Sound}
 use Rattle.moves.specs.Soundness.{move-sound}
-use Rattle.moves.specs.Kinds.{cost}
 use Rattle.moves.specs.Runs.{Run, rest, step, units, OnlyUnits}
 use Rattle.promises.specs.View.{view, Shape}
 use Rattle.promises.proofs.UnitMoves.{Goes, unit-goes}

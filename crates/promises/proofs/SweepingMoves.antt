@@ -6,25 +6,24 @@
 --     whiten-move, whiten-shape       a black block becomes white
 --     pass-move, pass-shape           a free block is passed
 -- Assumes nothing.
-use Prim.Native.Nat.{ℕ, suc, _+_, _-_, _*_, _≤_}
+use Prim.Native.Nat.{ℕ, suc, _+_, _≤_}
 use mathlib.Core.Path.{_≡_, refl, sym, _∙_, ap, subst}
 use mathlib.Core.Logic.{_≢_, _↔_}
-use mathlib.Core.Bool.{Bool, true, false, _&&_}
+use mathlib.Core.Bool.{false, _&&_}
 use mathlib.Core.List.{List}
 use native.Mathlib.Nat.{zero-div}
 use native.Mathlib.Numerals.{add-one}
 use native.Mathlib.Omega.{arith}
 use lib.Dec.{eqb, leb}
-use lib.ListN.{length, getD, length-set}
+use lib.ListN.{length, getD}
 use borrow.Author.Tests.{eq-eqb, ne-eqb, leb-true}
 use Rattle.blocks.specs.declared.Regs.{Regs}
 use Rattle.blocks.specs.declared.Colour.{Colour}
-use Rattle.blocks.specs.declared.Colour.the-variants.{White, Grey, Black, Free, Outside}
-use Rattle.blocks.specs.Tests.{if_then_else_}
+use Rattle.blocks.specs.declared.Colour.the-variants.{White, Black, Free, Outside}
 use Rattle.blocks.specs.Registers.{idle, marking, sweeping, withFree, withCount, sweepEnd}
-use Rattle.blocks.specs.Block.{isBlock, wordOf, byteOf, bit, withEight, freeWords, clearByte}
-use Rattle.blocks.specs.Colouring.{white, black, freed, colour, colourWord, paint}
-use Rattle.blocks.specs.Heap.{Heap, heap, colouring, withRegs, colourOf}
+use Rattle.blocks.specs.Block.{wordOf, byteOf, bit, withEight, freeWords, clearByte}
+use Rattle.blocks.specs.Colouring.{white, freed, colour, colourWord, paint}
+use Rattle.blocks.specs.Heap.{Heap, heap, colouring, colourOf}
 use Rattle.blocks.specs.WellFormed.{Block, Coloured, LaidOut, Exactly}
 use Rattle.blocks.specs.Ready.{Ready}
 use Rattle.blocks.specs.OneUnit.{metBlock, metWord, advance, reclaimed, whitened, passed}
@@ -35,14 +34,14 @@ use Rattle.blocks.proofs.Colours.{is-white, is-free}
 use Rattle.blocks.proofs.Steps.{never}
 use Rattle.blocks.proofs.Kept.{advance-kept, reclaimed-kept, whitened-kept}
 use Rattle.moves.specs.Tints as tints
-use Rattle.moves.specs.Heaps.{Abs, span, final}
-use Rattle.moves.specs.Moves.{SameCells, Swept, freeing, whitening, passing, Onward, going, ending, Sweep}
+use Rattle.moves.specs.Heaps.{span, final}
+use Rattle.moves.specs.Moves.{SameCells, freeing, whitening, passing, Onward, going, ending, Sweep}
 use Rattle.promises.specs.View.{tintOf, view, Shape}
 use Rattle.promises.proofs.Viewing.{here, there}
 use Rattle.promises.proofs.Chains.{chain-same, same-blocks, chain-push, push-length}
 use Rattle.promises.proofs.Painting.{painted, unpainted, eight-set, eight-kept}
 use Rattle.promises.proofs.Greys.{TintIn, GreyIn, plain-list}
-use Rattle.promises.proofs.Recolouring.{greys-of, of-greys, recoloured, free-of, of-free}
+use Rattle.promises.proofs.Recolouring.{greys-of, of-greys, recoloured}
 
 pair : {a b c d : ℕ} → a ≡ b → c ≡ d → _≡_ {A = ℕ × ℕ} (a, c) (b, d)
 pair p q = λ i. (p i, q i)

@@ -3,28 +3,23 @@
 --     unit-goes                every unit of a well-formed heap does
 --     unit-begins              an idle unit is a beginning
 -- Assumes nothing.
-use Prim.Native.Nat.{ℕ, _+_, _≤_}
+use Prim.Native.Nat.{ℕ}
 use mathlib.Core.Path.{_≡_, refl, sym, _∙_, ap, subst}
 use mathlib.Core.Logic.{_≢_}
-use mathlib.Core.Bool.{Bool, true, false, _&&_, _||_}
+use mathlib.Core.Bool.{true}
 use mathlib.Core.List.{List, [], _∷_, List·Memᴰ, List·Memᴰ·head, List·Memᴰ·tail}
 use native.Mathlib.Omega.{arith}
-use lib.Dec.{eqb}
 use borrow.Author.Tests.{eq-eqb, ne-eqb}
 use Rattle.blocks.specs.declared.Colour.{Colour}
 use Rattle.blocks.specs.declared.Colour.the-variants.{White, Grey, Black, Free, Outside}
 use Rattle.blocks.specs.declared.Step.{Step}
 use Rattle.blocks.specs.declared.Step.the-variants.{Begin, Mark, Turn, Reclaim, Whiten, Pass}
-use Rattle.blocks.specs.Tests.{if_then_else_}
 use Rattle.blocks.specs.Registers.{idle, marking, sweeping}
-use Rattle.blocks.specs.Block.{isBlock}
-use Rattle.blocks.specs.Colouring.{white, colour, colourWord, allocatedColour, isAllocated}
-use Rattle.blocks.specs.Heap.{Heap, colouring, colourOf, referencesOf}
-use Rattle.blocks.specs.WellFormed.{Block, Coloured}
-use Rattle.blocks.specs.OneUnit.{UnitEnd, finish, step, metBlock, metWord, begun, marked, sound, allSound, turned, advance, reclaimed, whitened, passed, act, unit}
+use Rattle.blocks.specs.Colouring.{white, colour, allocatedColour, isAllocated}
+use Rattle.blocks.specs.Heap.{Heap, colourOf, referencesOf}
+use Rattle.blocks.specs.OneUnit.{UnitEnd, finish, step, metBlock, metWord, begun, marked, sound, allSound, turned, reclaimed, whitened, passed, act, unit}
 use Rattle.blocks.proofs.Tests.{both, by-eq, if-true, if-false}
 use Rattle.blocks.proofs.Blocks.{below-isBlock, block-isBlock}
-use Rattle.blocks.proofs.Colours.{head-block}
 use Rattle.blocks.proofs.Steps.{never, begins, turns, marking-as, sweeping-as}
 use Rattle.meaning.proofs.Words.{member-names}
 use Rattle.moves.specs.Tints as tints

@@ -5,34 +5,29 @@
 --     names-ref, ref-names     what a block names, in the machine and in the view
 --     wf-shape, wf-sound, shape-wf     the two halves of well-formed, and back
 -- Assumes nothing.
-use Prim.Native.Nat.{ℕ, _+_, _≤_, _<_, _/_, _%_, _^_}
-use mathlib.Core.Path.{_≡_, refl, sym, _∙_, ap, subst}
+use Prim.Native.Nat.{ℕ}
+use mathlib.Core.Path.{_≡_, refl, sym, _∙_, ap}
 use mathlib.Core.Logic.{_≢_}
-use mathlib.Core.Bool.{Bool, true, false, _&&_}
+use mathlib.Core.Bool.{false, _&&_}
 use native.Mathlib.Nat.{zero-div}
 use native.Mathlib.Omega.{arith}
 use lib.Dec.{leb, eqb}
-use borrow.Author.Tests.{leb-true, leb-false, le-leb, lt-leb, eqb-true, eqb-false, eq-eqb, ne-eqb}
-use Rattle.blocks.specs.declared.Regs.{Regs}
+use borrow.Author.Tests.{leb-true, le-leb, eqb-true, eq-eqb}
 use Rattle.blocks.specs.declared.Colour.{Colour}
 use Rattle.blocks.specs.declared.Colour.the-variants.{White, Grey, Black, Free, Outside}
 use Rattle.blocks.specs.declared.Standing.the-variants.{Live as live}
-use Rattle.blocks.specs.Tests.{if_then_else_}
 use Rattle.blocks.specs.Registers.{idle, marking, sweeping}
-use Rattle.blocks.specs.Block.{wordOf, byteOf, bit}
-use Rattle.blocks.specs.Colouring.{colourWord}
+use Rattle.blocks.specs.Block.{byteOf, bit}
 use Rattle.blocks.specs.Heap.{Heap, colourOf}
 use Rattle.blocks.specs.Standing.{doomedWhite, standing, standingOf}
-use Rattle.blocks.specs.WellFormed.{Block, Coloured, Live, Names, Exactly, LaidOut, WellFormed}
-use Rattle.blocks.specs.Ready.{Ready}
-use Rattle.blocks.proofs.Tests.{both, both-true, by-test, by-eq, clash}
+use Rattle.blocks.specs.WellFormed.{Block, Coloured, Live, Names, LaidOut, WellFormed}
+use Rattle.blocks.proofs.Tests.{both-true, by-test, by-eq}
 use Rattle.blocks.proofs.Steps.{never}
 use Rattle.blocks.proofs.Entering.{tests-ready, ready-fits, ready-legal}
 use Rattle.blocks.proofs.Kept.{head-elsewhere}
 use Rattle.reach.specs.Sums as sums
-use Rattle.moves.specs.Tints.{Tint}
 use Rattle.moves.specs.Tints as tints
-use Rattle.moves.specs.Heaps.{Abs, named, ref, Doomed, Sound}
+use Rattle.moves.specs.Heaps.{named, ref, Doomed, Sound}
 use Rattle.moves.specs.Heaps as heaps
 use Rattle.promises.specs.View.{tintOf, view, Shape}
 

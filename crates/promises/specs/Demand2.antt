@@ -11,11 +11,9 @@
 use Prim.Native.Nat.{ℕ, _≤_}
 use mathlib.Core.Path.{_≡_}
 use mathlib.Core.Logic.{_≢_}
-use mathlib.Core.Bool.{true}
 use mathlib.Core.List.{List, [], _∷_, _++_, List·Memᴰ}
 use lib.ListN.{take}
 use Rattle.blocks.specs.Registers.{idle}
-use Rattle.blocks.specs.Block.{wordOf, byteOf, bit}
 use Rattle.blocks.specs.Heap.{Heap}
 use Rattle.blocks.specs.WellFormed.{Block, Live, Names, WellFormed}
 use Rattle.blocks.specs.Format.{formatted}
