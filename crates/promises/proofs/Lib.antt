@@ -22,3 +22,4 @@ pub mod Chaining
 pub mod Collecting
 pub mod Bounding
 pub mod Rooming
+pub mod Instances

@@ -5,3 +5,4 @@ pub mod Sessions
 pub mod Demand2
 pub mod Demand3
 pub mod View
+pub mod Instances

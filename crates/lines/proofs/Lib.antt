@@ -1,0 +1,6 @@
+-- What is proved of lines alone.
+pub mod Packing
+pub mod Gathering
+pub mod Naming
+pub mod Lending
+pub mod Contracts

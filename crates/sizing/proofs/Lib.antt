@@ -1,0 +1,2 @@
+-- The laws of the sizes, and the functions' proofs.
+pub mod Sizes

@@ -1,0 +1,2 @@
+-- Demand 3's premise, as numbers.
+pub mod Sizing

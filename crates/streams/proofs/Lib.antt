@@ -1,0 +1,2 @@
+-- What is proved of streams alone.
+pub mod Cutting

@@ -1,0 +1,2 @@
+-- Lines of a stream of bytes.
+pub mod Streams

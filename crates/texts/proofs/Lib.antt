@@ -1,0 +1,3 @@
+-- What is proved of texts alone.
+pub mod Digits
+pub mod Pieces

@@ -1,0 +1,2 @@
+-- Numbers in a line of text.
+pub mod Numbers
