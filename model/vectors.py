@@ -1,5 +1,6 @@
 """python3 model/vectors.py DIR writes DIR/heaprun, DIR/heapprobe and
-DIR/listing, each with the input `stdin` and the model's output `stdout`.
+DIR/listing, each with the input `stdin` and the model's output `stdout`, and
+DIR/roster, which has no input.
 
 The files follow from fixed seeds. It fails if a refusal that a call can give
 is missing from them.
@@ -15,6 +16,7 @@ import draw
 import lines
 import machine
 import probe
+import roster
 
 TOP = 4294967295
 
@@ -178,15 +180,16 @@ def missing(found, wanted):
 
 # -------------------------------------------------------------- writing
 
-def write(folder, data, output):
+def write(folder, **contents):
     os.makedirs(folder, exist_ok=True)
-    for name, content in (("stdin", data), ("stdout", output)):
+    for name, content in contents.items():
         with open(os.path.join(folder, name), "wb") as file:
             file.write(content)
 
 
 def main(folder):
-    write(os.path.join(folder, "listing"), check.LISTING_IN, lines.heaprun(check.LISTING_IN))
+    write(os.path.join(folder, "listing"), stdin=check.LISTING_IN, stdout=lines.heaprun(check.LISTING_IN))
+    write(os.path.join(folder, "roster"), stdout=roster.output())
     failed = False
     for name, program, inputs, counts, wanted, last in [
             ("heaprun", lines.heaprun, heaprun_lines(), heaprun_counts, heaprun_wanted(), b""),
@@ -194,7 +197,7 @@ def main(folder):
              heapprobe_wanted(), b"\n")]:
         data = b"\n".join(inputs) + last
         output = program(data)
-        write(os.path.join(folder, name), data, output)
+        write(os.path.join(folder, name), stdin=data, stdout=output)
         found = counts(inputs, output)
         print(f"{name}: {len(inputs)} lines, {len(data)} bytes")
         print("  " + ", ".join(f"{letter} {answer}: {n}"

@@ -110,7 +110,7 @@ pub fn take_refusal(r: Regs, words: &[u32], colours: &[u32], b: u32) -> u32
     if b == 0 {
         return list_refusal(r, words, colours);
     }
-    let d = checks::holder_refusal(r, colours, b);
+    let d = checks::holder_refusal(r.blocks, r.phase, r.position, colours, b);
     if d != 0 {
         return d;
     }

@@ -42,7 +42,7 @@ fn white_passes(r: Regs, colours: &[u32], part: &[u32], byte: u8, b: u32) -> boo
     requires { ⌜ (r .blocks ≤ 16384) × (length (now colours) ≡ r .blocks) × (length (now part) ≡ 8) ⌝ }
     ensures { λ t. ⌜ t ≡ colourPasses r (now (colours .entry)) (now (part .entry)) byte b White ⌝ }
 {
-    if checks::doomed_white(r, b) {
+    if checks::doomed_white(r.phase, r.position, b) {
         return true;
     }
     naming::may_name_all(r, colours, false, part, byte)
@@ -124,13 +124,13 @@ fn blocks_pass(r: Regs, words: &[u32], colours: &[u32], bytes: &[u8]) -> bool
     true
 }
 
-// Whether the heap is well-formed.
+// Whether the heap is well-formed. A block whose colour is legal is all that passes, so legal colours are not looked for apart.
 fn passes(r: Regs, words: &[u32], colours: &[u32], bytes: &[u8]) -> bool
     ensures { λ t. ⌜ t ≡ passes (heap r (now (words .entry)) (now (colours .entry)) (now (bytes .entry))) ⌝ }
 {
     if checks::entry(r, words, colours, bytes) == 0 {
-        if colours::layout::layout_passes(r.blocks, r.grey, colours) {
-            if blocks_pass(r, words, colours, bytes) {
+        if blocks_pass(r, words, colours, bytes) {
+            if colours::layout::greys_pass(r.blocks, r.grey, colours) {
                 if naming::may_name(r, colours, r.phase == 1, r.root) {
                     return walks::frees_pass(r, words, colours);
                 }

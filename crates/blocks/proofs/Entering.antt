@@ -3,25 +3,29 @@
 --     first-zero                   the first of two refusals is none exactly where both are
 --     choose-zero                  a choice of refusal that refused nothing
 --     none-or-block, block-or-none the test isBlockOrNone and the fact Block
+--     none-or-high                 the same test by two comparisons
+--     legal-idle, legal-marking, legal-sweeping, legal-nowhere     the phase, the grey head and the position, phase by phase
+--     fits-lengths, unfit-lengths  what fits, the lengths tested first
+--     legal-as, illegal-phase, illegal-free, illegal-count     legal registers, the tests in another order
 -- Assumes nothing.
-use Prim.Native.Nat.{ℕ, _*_, _≤_}
-use mathlib.Core.Path.{_≡_, refl}
+use Prim.Native.Nat.{ℕ, _+_, _*_, _≤_, _<_}
+use mathlib.Core.Path.{_≡_, refl, sym, _∙_}
 use mathlib.Core.Logic.{_≢_, ⊎-elim}
-use mathlib.Core.Bool.{Bool, true, false, _&&_}
+use mathlib.Core.Bool.{Bool, true, false, _&&_, _||_, not}
 use native.Mathlib.Omega.{arith}
 use lib.Dec.{leb, eqb}
 use lib.ListN.{length}
-use borrow.Author.Tests.{leb-true, eqb-true, le-leb, eq-eqb, ne-eqb}
+use borrow.Author.Tests.{leb-true, eqb-true, le-leb, lt-leb, eq-eqb, ne-eqb}
 use Rattle.blocks.specs.declared.Regs.{Regs}
 use Rattle.blocks.specs.Tests.{if_then_else_, _▷_}
-use Rattle.blocks.specs.Registers.{sweeping, sweepEnd}
+use Rattle.blocks.specs.Registers.{idle, marking, sweeping, sweepEnd}
 use Rattle.blocks.specs.Block.{isBlock}
 use Rattle.blocks.specs.Colouring.{coloursFit, headLegal}
 use Rattle.blocks.specs.Heap.{Heap}
 use Rattle.blocks.specs.Entry.{numbersFit, lengthsFit, fits, heapFits, isBlockOrNone, positionLegal, legal, entry}
 use Rattle.blocks.specs.WellFormed.{Block}
 use Rattle.blocks.specs.Ready.{Ready}
-use Rattle.blocks.proofs.Tests.{both-true, both, either-true, by-eq, clash}
+use Rattle.blocks.proofs.Tests.{both-true, both, either-true, by-test, by-eq, clash}
 use Rattle.blocks.proofs.Blocks.{isBlock-block, block-isBlock}
 
 -- the first of two refusals is 0 exactly where both are
@@ -45,6 +49,16 @@ pub block-or-none : (m b : ℕ) → (b ≢ 0 → Block m b) → isBlockOrNone m 
 unfolding isBlockOrNone
 block-or-none m b f = by-eq b 0 (λ z. simp (eq-eqb b 0 z)) (λ n. simp (ne-eqb b 0 n, block-isBlock m b (f n)))
 
+pub none-or-high : (m b : ℕ) → b ≤ m + 1 → (not (eqb b 1)) ≡ isBlockOrNone m b
+unfolding isBlockOrNone isBlock
+none-or-high m b l = by-eq b 1
+    (λ e. rw e refl)
+    (λ n. by-eq b 0 (λ z. rw z refl) (λ z. simp (ne-eqb b 1 n, ne-eqb b 0 z, le-leb 2 b (omega arith), le-leb b (m + 1) l)))
+
+pub none-above : (m b : ℕ) → m + 1 < b → false ≡ isBlockOrNone m b
+unfolding isBlockOrNone isBlock
+none-above m b l = simp (ne-eqb b 0 (λ z. absurd (omega arith)), le-leb 2 b (omega arith), lt-leb b (m + 1) l)
+
 placed-of : (r : Regs) → positionLegal r ≡ true → r .phase ≡ sweeping → (2 ≤ r .position) × (r .position ≤ sweepEnd r)
 unfolding positionLegal
 placed-of r e s =
@@ -61,6 +75,88 @@ position-of r p q =
     by-eq (r .phase) sweeping
     (λ s. simp (eq-eqb (r .phase) sweeping s, le-leb 2 (r .position) (p s .0), le-leb (r .position) (sweepEnd r) (p s .1)))
     (λ s. simp (ne-eqb (r .phase) sweeping s, eq-eqb (r .position) 0 (q s)))
+
+and-true : (t : Bool) → (t && true) ≡ t
+and-true true = refl
+and-true false = refl
+
+and-swap : (t u : Bool) → (t && u) ≡ (u && t)
+and-swap true true = refl
+and-swap true false = refl
+and-swap false true = refl
+and-swap false false = refl
+
+-- the phase, and in it the grey head and the position, phase by phase
+module _ (r : Regs) where
+  abbrev phaseLegal : Bool
+  phaseLegal = leb (r .phase) 2 && (headLegal (r .blocks) (r .phase) (r .grey) && positionLegal r)
+
+  pub legal-idle : {x : Bool} → r .phase ≡ idle → x ≡ (eqb (r .grey) 1 && eqb (r .position) 0) → x ≡ phaseLegal
+  unfolding headLegal positionLegal
+  legal-idle p e = e ∙ rw p (go (eqb (r .grey) 1))
+    where
+      go : (t : Bool) → (t && eqb (r .position) 0) ≡ ((t || false) && eqb (r .position) 0)
+      go true = refl
+      go false = refl
+
+  pub legal-marking : {x : Bool} → r .phase ≡ marking → x ≡ (eqb (r .position) 0 && (eqb (r .grey) 1 || isBlock (r .blocks) (r .grey))) → x ≡ phaseLegal
+  unfolding headLegal positionLegal
+  legal-marking p e = e ∙ rw p (and-swap (eqb (r .position) 0) (eqb (r .grey) 1 || isBlock (r .blocks) (r .grey)))
+
+  pub legal-sweeping : {x : Bool} → r .phase ≡ sweeping → x ≡ (eqb (r .grey) 1 && isBlock (r .blocks) (r .position)) → x ≡ phaseLegal
+  unfolding headLegal positionLegal isBlock
+  legal-sweeping p e = e ∙ rw p (go (eqb (r .grey) 1))
+    where
+      go : (t : Bool) → (t && (leb 2 (r .position) && leb (r .position) (r .blocks + 1))) ≡ ((t || false) && (leb 2 (r .position) && leb (r .position) (r .blocks + 1)))
+      go true = refl
+      go false = refl
+
+  pub legal-nowhere : r .phase ≢ idle → r .phase ≢ marking → r .phase ≢ sweeping → false ≡ phaseLegal
+  legal-nowhere i k s = simp (lt-leb (r .phase) 2 (omega arith))
+
+  -- the order of the tests is free
+  pub legal-as : leb (r .count) (r .blocks) ≡ true → phaseLegal ≡ true → isBlockOrNone (r .blocks) (r .free) ≡ true
+      → {x : Bool} → x ≡ isBlockOrNone (r .blocks) (r .root) → x ≡ legal r
+  unfolding legal
+  legal-as c p f e =
+      let (l, q) = both-true (leb (r .phase) 2) (headLegal (r .blocks) (r .phase) (r .grey) && positionLegal r) p in
+      let (g, o) = both-true (headLegal (r .blocks) (r .phase) (r .grey)) (positionLegal r) q in
+      simp (l, g, f, c, o) (e ∙ sym (and-true (isBlockOrNone (r .blocks) (r .root))))
+
+  legal-parts : legal r ≡ true → (phaseLegal ≡ true) × (isBlockOrNone (r .blocks) (r .free) ≡ true) × (leb (r .count) (r .blocks) ≡ true)
+  unfolding legal
+  legal-parts e =
+      let c5 = leb (r .count) (r .blocks) && positionLegal r in
+      let c4 = isBlockOrNone (r .blocks) (r .root) && c5 in
+      let c3 = isBlockOrNone (r .blocks) (r .free) && c4 in
+      let l1 = both-true (leb (r .phase) 2) (headLegal (r .blocks) (r .phase) (r .grey) && c3) e in
+      let l2 = both-true (headLegal (r .blocks) (r .phase) (r .grey)) c3 (l1 .1) in
+      let l3 = both-true (isBlockOrNone (r .blocks) (r .free)) c4 (l2 .1) in
+      let l4 = both-true (isBlockOrNone (r .blocks) (r .root)) c5 (l3 .1) in
+      let l5 = both-true (leb (r .count) (r .blocks)) (positionLegal r) (l4 .1) in
+      (both (l1 .0) (both (l2 .0) (l5 .1)), l3 .0, l5 .0)
+
+  -- a test that fails makes the whole fail
+  fails : {t : Bool} → (legal r ≡ true → t ≡ true) → t ≡ false → false ≡ legal r
+  fails f e = by-test (legal r) (λ l. clash (f l) e) (λ l. sym l)
+
+  pub illegal-phase : phaseLegal ≡ false → false ≡ legal r
+  illegal-phase e = fails (λ l. legal-parts l .0) e
+
+  pub illegal-free : isBlockOrNone (r .blocks) (r .free) ≡ false → false ≡ legal r
+  illegal-free e = fails (λ l. legal-parts l .1) e
+
+  pub illegal-count : leb (r .count) (r .blocks) ≡ false → false ≡ legal r
+  illegal-count e = fails (λ l. legal-parts l .2) e
+
+-- the lengths are tested first
+pub fits-lengths : (m u lw lc lb : ℕ) → lengthsFit m lw lc lb ≡ true → {x : Bool} → x ≡ numbersFit m u → x ≡ fits m u lw lc lb
+unfolding fits
+fits-lengths m u lw lc lb l e = e ∙ sym (simp l (and-true (numbersFit m u)))
+
+pub unfit-lengths : (m u lw lc lb : ℕ) → lengthsFit m lw lc lb ≡ false → false ≡ fits m u lw lc lb
+unfolding fits
+unfit-lengths m u lw lc lb l = simp l (sym (and-swap (numbersFit m u) false))
 
 -- the parts of the two tests, one by one
 record Parts (h : Heap) : Type 0 where

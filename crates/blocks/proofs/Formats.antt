@@ -9,9 +9,9 @@ use mathlib.Core.Bool.{true, false, _&&_}
 use mathlib.Core.List.{List, _++_, append-nil, append-assoc}
 use native.Mathlib.Omega.{arith}
 use native.Mathlib.Numerals.{add-one}
-use lib.Dec.{eqb}
+use lib.Dec.{eqb, leb}
 use lib.ListN.{length, take, replicate, length-append}
-use borrow.Author.Tests.{eqb-true}
+use borrow.Author.Tests.{eqb-true, leb-true}
 use lib.Seq.{take-all, take-at, length-take-le}
 use Rattle.blocks.specs.Tests.{if_then_else_}
 use Rattle.blocks.specs.declared.Regs.{Regs}
@@ -44,13 +44,14 @@ pub link-end : (all ws : List ℕ) (left b m : ℕ) → left ≡ 0 → b ≡ m +
 unfolding freeList
 link-end all ws left b m z q l e = sym (e ∙ (rw (z, append-nil, take-all (base b) ws (omega arith)) refl))
 
-pub fits-parts : (m u lw lc lb : ℕ) → fits m u lw lc lb ≡ true → (m ≤ 16384) × (lw ≡ 8 * m) × (lc ≡ m) × (lb ≡ m)
-unfolding fits lengthsFit
+pub fits-parts : (m u lw lc lb : ℕ) → fits m u lw lc lb ≡ true → (1 ≤ m) × (m ≤ 16384) × (lw ≡ 8 * m) × (lc ≡ m) × (lb ≡ m)
+unfolding fits numbersFit lengthsFit
 fits-parts m u lw lc lb e =
-    let l = both-true (numbersFit m u) (lengthsFit m lw lc lb) e .1 in
+    let (k, l) = both-true (numbersFit m u) (lengthsFit m lw lc lb) e in
+    let o = both-true (leb 1 m) (leb m 16384 && leb u 65535) k .0 in
     let a = both-true (eqb lw (8 * m)) (coloursFit m lc && eqb lb m) l in
     let b = both-true (coloursFit m lc) (eqb lb m) (a .1) in
-    (fits-most m u lw lc lb e, eqb-true lw (8 * m) (a .0), eqb-true lc m (b .0), eqb-true lb m (b .1))
+    (leb-true 1 m o, fits-most m u lw lc lb e, eqb-true lw (8 * m) (a .0), eqb-true lc m (b .0), eqb-true lb m (b .1))
 
 module _ (m u : ℕ) (h : Heap) where
   pub format-done :
@@ -60,7 +61,7 @@ module _ (m u : ℕ) (h : Heap) where
   unfolding format formatted
   format-done s ws cs bs e r w c b =
       let p = fits-parts m u (length (h .words)) (length (h .colours)) (length (h .bytes)) e in
-      rw (r, w, c, b, e, p .2, p .3) refl
+      rw (r, w, c, b, e, p .3, p .4) refl
 
   pub format-not : fits m u (length (h .words)) (length (h .colours)) (length (h .bytes)) ≡ false → refuse 1 h ≡ format m u h
   unfolding format

@@ -10,6 +10,7 @@ pub mod Colours
 pub mod Bytes
 pub mod Steps
 pub mod Parts
+pub mod Seeing
 pub mod Marking
 pub mod Sweeping
 pub mod Running

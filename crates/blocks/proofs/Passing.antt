@@ -1,6 +1,5 @@
 -- Laws of the audit's tests, one for each way through the code.
---     legal-as, grey-no, grey-as, grey-block       a legal colour; a grey block
---     layout-no, layout-as                         the two ways of layoutPasses
+--     grey-no, grey-as, grey-block                 a grey block
 --     free-no, free-as, free-block                 a free block
 --     first-word                                   word 0 of a block stands where its words begin
 --     frees-no, frees-as                           the two ways of freesPass
@@ -9,11 +8,12 @@
 --     white-doomed, white-as, grey-off, grey-named, black-off, black-as, freed-off, freed-as     two ways for each colour
 --     eight-words                                  a block's words, as a part of the word buffer
 --     block-as                                     a block, by its colour
---     entry-no, layout-off, blocks-off, root-off, passes-as     the five ways of passes
+--     layout-greys                                 where every block passes, the layout's part is the grey list's
+--     entry-no, blocks-fail, layout-off, root-off, passes-as     the five ways of passes
 --     audit-one, audit-none                        the two ways of audit
 -- Assumes nothing.
-use Prim.Native.Nat.{ℕ, _+_, _-_}
-use mathlib.Core.Path.{_≡_, refl}
+use Prim.Native.Nat.{ℕ, zero, suc, _+_, _-_}
+use mathlib.Core.Path.{_≡_, refl, _∙_}
 use mathlib.Core.Logic.{_≢_}
 use mathlib.Core.Bool.{Bool, true, false}
 use mathlib.Core.List.{List}
@@ -23,23 +23,19 @@ use lib.Dec.{eqb}
 use lib.ListN.{getD, take, drop}
 use Rattle.blocks.specs.declared.Regs.{Regs}
 use Rattle.blocks.specs.declared.Colour.{Colour}
-use Rattle.blocks.specs.declared.Colour.the-variants.{White, Grey, Black, Free}
+use Rattle.blocks.specs.declared.Colour.the-variants.{White, Grey, Black, Free, Outside}
 use Rattle.blocks.specs.declared.Standing.{Standing}
 use Rattle.blocks.specs.Registers.{marking}
 use Rattle.blocks.specs.Block.{isBlock, base, wordOf, byteOf, eightWords, references}
-use Rattle.blocks.specs.Colouring.{Colouring, colour, colourWord, freeColour}
+use Rattle.blocks.specs.Colouring.{colour, colourWord, freeColour}
 use Rattle.blocks.specs.Heap.{Heap, colouring}
 use Rattle.blocks.specs.Standing.{doomedWhite, standing}
 use Rattle.blocks.specs.Entry.{entry}
 use Rattle.blocks.specs.Answers.{done}
 use Rattle.blocks.specs.Audit.{allFrom, countFrom, walk, legalColour, greyColour, isLegal, isGrey, isFree, layoutPasses, isLive, notWhite, mayBeNamed, mayName, mayNameAll, zeroFrom, mayBeBlack, colourPasses, blockPasses, freesPass, passes, audit}
-use Rattle.blocks.proofs.Tests.{both-true}
+use Rattle.blocks.proofs.Tests.{both-true, both, by-test, clash}
 
 module _ (m : ℕ) (cs : List ℕ) (b : ℕ) where
-  pub legal-as : (t : Bool) (c : Colour) (word : ℕ) → word ≡ colourWord cs b → c ≡ colour m word → t ≡ legalColour c → t ≡ isLegal m cs b
-  unfolding isLegal
-  legal-as t c word w i a = rw (a, i, w) refl
-
   pub grey-no : isBlock m b ≡ false → false ≡ isGrey m cs b
   unfolding isGrey
   grey-no e = simp e
@@ -51,15 +47,6 @@ module _ (m : ℕ) (cs : List ℕ) (b : ℕ) where
   pub grey-block : isGrey m cs b ≡ true → isBlock m b ≡ true
   unfolding isGrey
   grey-block e = both-true (isBlock m b) (greyColour (colour m (colourWord cs b))) e .0
-
-module _ (m : ℕ) (k : Colouring) where
-  pub layout-no : allFrom (isLegal m (k .cells)) m 2 ≡ false → false ≡ layoutPasses m k
-  unfolding layoutPasses
-  layout-no e = simp e
-
-  pub layout-as : (t : Bool) (n : ℕ) → allFrom (isLegal m (k .cells)) m 2 ≡ true → n ≡ countFrom (isGrey m (k .cells)) m 2 → t ≡ walk (isGrey m (k .cells)) (colourWord (k .cells)) 1 n (k .head) → t ≡ layoutPasses m k
-  unfolding layoutPasses
-  layout-as t n e c w = rw (w, c, e) refl
 
 module _ (m : ℕ) (cs : List ℕ) (b : ℕ) where
   pub free-no : isBlock m b ≡ false → false ≡ isFree m cs b
@@ -158,6 +145,32 @@ module _ (h : Heap) where
   unfolding blockPasses
   block-as b t c word part w i p a = rw (a, i, w, p) refl
 
+  -- a block that passes has a legal colour
+  block-legal : (b : ℕ) → blockPasses h b ≡ true → isLegal (h .regs .blocks) (h .colours) b ≡ true
+  unfolding blockPasses isLegal colourPasses
+  block-legal b = go (colour (h .regs .blocks) (colourWord (h .colours) b))
+    where
+      go : (c : Colour) → colourPasses (h .regs) (h .colours) (eightWords (h .words) b) (byteOf (h .bytes) b) b c ≡ true → legalColour c ≡ true
+      go White e = refl
+      go Grey e = refl
+      go Black e = refl
+      go Free e = refl
+      go Outside e = clash e refl
+
+  blocks-legal : (n b : ℕ) → allFrom (blockPasses h) n b ≡ true → allFrom (isLegal (h .regs .blocks) (h .colours)) n b ≡ true
+  unfolding allFrom
+  blocks-legal zero b e = refl
+  blocks-legal (suc n) b e =
+      let (p, q) = both-true (blockPasses h b) (allFrom (blockPasses h) n (b + 1)) e in
+      both (block-legal b p) (blocks-legal n (b + 1) q)
+
+  -- so the layout's part is the grey list's alone
+  pub layout-greys : allFrom (blockPasses h) (h .regs .blocks) 2 ≡ true → {t : Bool}
+      → t ≡ walk (isGrey (h .regs .blocks) (h .colours)) (colourWord (h .colours)) 1 (countFrom (isGrey (h .regs .blocks) (h .colours)) (h .regs .blocks) 2) (h .regs .grey)
+      → t ≡ layoutPasses (h .regs .blocks) (colouring h)
+  unfolding layoutPasses
+  layout-greys a e = e ∙ simp (blocks-legal (h .regs .blocks) 2 a)
+
   pub entry-no : entry h ≢ 0 → false ≡ passes h
   unfolding passes
   entry-no e = simp (ne-eqb (entry h) 0 e)
@@ -168,7 +181,7 @@ module _ (h : Heap) where
     layout-off l = simp (eq-eqb (entry h) 0 e, l)
 
     module _ (l : layoutPasses (h .regs .blocks) (colouring h) ≡ true) where
-      pub blocks-off : allFrom (blockPasses h) (h .regs .blocks) 2 ≡ false → false ≡ passes h
+      blocks-off : allFrom (blockPasses h) (h .regs .blocks) 2 ≡ false → false ≡ passes h
       unfolding passes
       blocks-off a = simp (eq-eqb (entry h) 0 e, l, a)
 
@@ -182,6 +195,9 @@ module _ (h : Heap) where
             → t ≡ freesPass (h .regs) (h .words) (h .colours) → t ≡ passes h
         unfolding passes
         passes-as t n f = rw (f, eq-eqb (entry h) 0 e, l, a, n) refl
+
+  pub blocks-fail : entry h ≡ 0 → allFrom (blockPasses h) (h .regs .blocks) 2 ≡ false → false ≡ passes h
+  blocks-fail e a = by-test (layoutPasses (h .regs .blocks) (colouring h)) (λ l. blocks-off e l a) (λ l. layout-off e l)
 
   pub audit-one : passes h ≡ true → done 1 h ≡ audit h
   unfolding audit

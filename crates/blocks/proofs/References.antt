@@ -6,7 +6,7 @@ use Prim.Native.Nat.{ℕ, _+_}
 use mathlib.Core.Path.{_≡_, refl, sym}
 use mathlib.Core.Logic.{_≢_}
 use mathlib.Core.Bool.{Bool, true, false}
-use mathlib.Core.List.{List}
+use mathlib.Core.List.{List, []}
 use native.Mathlib.Numerals.{add-one}
 use lib.ListN.{getD}
 use borrow.Author.Tests.{eq-eqb, ne-eqb}
@@ -35,8 +35,8 @@ module _ (r : Regs) (cs : List ℕ) (s : Bool) (part : List ℕ) (byte : ℕ) (t
       go true b h = sym (simp (b, h) at (rw (e, add-one k) at i))
       go false b h = clash refl h
 
-  pub names-end : n ≡ 0 → true ≡ t
-  unfolding referencesFrom mayNameAll
+  pub names-end : referencesFrom n w part byte ≡ [] → true ≡ t
+  unfolding mayNameAll
   names-end e = sym (rw e at i)
 
 module _ (part : List ℕ) (t : Bool) (n w : ℕ) (i : t ≡ zeroFrom n w part) where

@@ -1,10 +1,8 @@
--- Which step a unit takes, a law for each way through the match; and what a step tells of phase and grey head.
+-- Which step a unit takes, a law for each way through the match.
 --     begins, begins-not, turns, marking-as, sweeping-as, nowhere     the step, by phase, grey head and colour word
 --     high-marks               a colour word above every block number while marking
 --     other-sweeps             a colour word that is none of the three while sweeping
 --     step-cases               what holds in each case holds of the step
---     sweeps                   the steps that are taken while sweeping only
---     marks-in, sweeps-in      the phase, and the grey head, in which a step is taken
 -- Assumes nothing.
 use Prim.Native.Nat.{ℕ, _+_, _≤_}
 use mathlib.Core.Path.{_≡_, refl, ap}
@@ -20,7 +18,7 @@ use Rattle.blocks.specs.declared.Step.the-variants.{Begin, Mark, Turn, R
 use Rattle.blocks.specs.Registers.{idle, marking, sweeping}
 use Rattle.blocks.specs.Colouring.{white, black, freed, colour}
 use Rattle.blocks.specs.OneUnit.{markStep, sweepStep, step}
-use Rattle.blocks.proofs.Tests.{by-eq, clash}
+use Rattle.blocks.proofs.Tests.{by-eq}
 use Rattle.blocks.proofs.Colours.{is-black, is-free, is-grey, is-outside}
 
 module _ (m p g word : ℕ) where
@@ -99,23 +97,3 @@ step-cases P m p g word begin turn mark reclaim whiten pass damaged =
     swept s Black e = whiten s e
     swept s Free e = pass s e
     swept s Outside e = damaged
-
-pub marks-in : (m p g word : ℕ) → Mark ≡ step m p g word → (p ≡ marking) × (g ≢ 1)
-marks-in m p g word =
-    step-cases (λ s. Mark ≡ s → (p ≡ marking) × (g ≢ 1)) m p g word
-    (λ i w e. never (cc)) (λ k o e. never (cc)) (λ k o c e. (k, o)) (λ s c e. never (cc)) (λ s c e. never (cc)) (λ s c e. never (cc)) (λ e. never (cc))
-
--- the steps that are taken while sweeping only
-abbrev pub sweeps : Step → Bool
-sweeps Begin = false
-sweeps Mark = false
-sweeps Turn = false
-sweeps Reclaim = true
-sweeps Whiten = true
-sweeps Pass = true
-sweeps Damage = false
-
-pub sweeps-in : (m p g word : ℕ) → sweeps (step m p g word) ≡ true → p ≡ sweeping
-sweeps-in m p g word =
-    step-cases (λ s. sweeps s ≡ true → p ≡ sweeping) m p g word
-    (λ i w e. clash e refl) (λ k o e. clash e refl) (λ k o c e. clash e refl) (λ s c e. s) (λ s c e. s) (λ s c e. s) (λ e. clash e refl)

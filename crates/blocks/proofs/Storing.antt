@@ -26,8 +26,8 @@ use Rattle.blocks.specs.Read.{readRefusal}
 use Rattle.blocks.specs.Store.{barrier, putNumber, putReference, storeNumber, storeRefusal, storeReference, rootRefusal, setRoot}
 use Rattle.blocks.specs.WellFormed.{Block}
 use Rattle.blocks.specs.Ready.{Ready}
-use Rattle.blocks.proofs.Entering.{first-zero, entry-ready}
-use Rattle.blocks.proofs.Refusals.{Readable, word-zero}
+use Rattle.blocks.proofs.Entering.{first-zero, none-or-block, entry-ready}
+use Rattle.blocks.proofs.Refusals.{Readable, word-zero, target-zero}
 
 -- n is the refusal number that the tests answered
 pub unless-stops : {g : Given} {h : Heap} {n a : ℕ} (x : Given) → n ≡ a → n ≢ 0 → g ≡ refuse n h → g ≡ unless a h x
@@ -39,9 +39,9 @@ unfolding unless
 unless-passes {a} h e z f = simp (eq-eqb a 0 (sym e ∙ z)) f
 
 module _ (h : Heap) (t : ℕ) where
-  pub barrier-on : (k : Colouring) → h .regs .phase ≡ marking → k ≡ greyWhite (h .regs .blocks) t (colouring h) → withColouring k h ≡ barrier t h
+  pub barrier-on : (k : Colouring) {n : ℕ} → n ≡ h .regs .blocks → h .regs .phase ≡ marking → k ≡ greyWhite n t (colouring h) → withColouring k h ≡ barrier t h
   unfolding barrier
-  barrier-on k e g = rw g (simp (eq-eqb (h .regs .phase) marking e))
+  barrier-on k m e g = rw (g, m) (simp (eq-eqb (h .regs .phase) marking e))
 
   pub barrier-off : h .regs .phase ≢ marking → h ≡ barrier t h
   unfolding barrier
@@ -86,6 +86,20 @@ module _ (h : Heap) (t : ℕ) {g : Given} {n : ℕ} where
 pub root-ready : (h : Heap) (t : ℕ) → rootRefusal t h ≡ 0 → Ready h
 unfolding rootRefusal
 root-ready h t e = entry-ready h (first-zero (entry h) (targetPlace (h .regs .blocks) t ▷ targetRefusal h t) e .0)
+
+pub root-named : (h : Heap) (t : ℕ) → rootRefusal t h ≡ 0 → t ≢ 0 → Block (h .regs .blocks) t
+unfolding rootRefusal
+root-named h t e =
+    let a = first-zero (entry h) (targetPlace (h .regs .blocks) t ▷ targetRefusal h t) e in
+    none-or-block (h .regs .blocks) t (target-zero (h .regs .blocks) t (first-zero (targetPlace (h .regs .blocks) t) (targetRefusal h t) (a .1) .0))
+
+pub store-named : (h : Heap) (b w t : ℕ) → storeRefusal b w t h ≡ 0 → t ≢ 0 → Block (h .regs .blocks) t
+unfolding storeRefusal
+store-named h b w t e =
+    let m = h .regs .blocks in
+    let a = first-zero (entry h) (wordRefusal m b w ▷ targetPlace m t ▷ holderRefusal h b ▷ targetRefusal h t) e in
+    let p = first-zero (wordRefusal m b w) (targetPlace m t ▷ holderRefusal h b ▷ targetRefusal h t) (a .1) in
+    none-or-block m t (target-zero m t (first-zero (targetPlace m t) (holderRefusal h b ▷ targetRefusal h t) (p .1) .0))
 
 pub storable : (h : Heap) (b w t : ℕ) → storeRefusal b w t h ≡ 0 → Readable h b w
 unfolding storeRefusal

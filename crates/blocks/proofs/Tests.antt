@@ -4,11 +4,12 @@
 --     if-true, if-false        a choice whose test is known
 --     clash                    a test that is true and false
 --     by-test, by-eq           a case split on a test, on whether two numbers are equal
+--     differ, agree            what a test for a difference says
 --     so                       an answer, by its contract, and what a test said of it
 -- Assumes nothing.
 use Prim.Native.Nat.{ℕ}
 use mathlib.Core.Path.{_≡_, refl, sym, _∙_}
-use mathlib.Core.Bool.{Bool, true, false, _&&_, _||_, true≢false}
+use mathlib.Core.Bool.{Bool, true, false, _&&_, _||_, not, true≢false}
 use mathlib.Core.Logic.{_⊎_, inl, inr}
 use lib.Dec.{eqb}
 use borrow.Author.Tests.{eqb-true, eqb-false}
@@ -46,6 +47,13 @@ by-test false p q = q refl
 -- a case split on two numbers
 pub by-eq : {A : Type 0} (a b : ℕ) → (a ≡ b → A) → ((a ≡ b → ⊥) → A) → A
 by-eq a b p q = by-test (eqb a b) (λ e. p (eqb-true a b e)) (λ e. q (eqb-false a b e))
+
+-- what a test of a field for a difference says
+pub differ : (a b : ℕ) → not (eqb a b) ≡ true → (a ≡ b → ⊥)
+differ a b e = by-test (eqb a b) (λ t. absurd (true≢false (sym e ∙ rw t refl))) (λ t. eqb-false a b t)
+
+pub agree : (a b : ℕ) → not (eqb a b) ≡ false → a ≡ b
+agree a b e = by-test (eqb a b) (λ t. eqb-true a b t) (λ t. absurd (true≢false (sym (rw t refl) ∙ e)))
 
 -- what a function answered, by its contract, and what a test then said of the answer
 pub so : {A : Type 0} {r s t : A} → r ≡ s → r ≡ t → s ≡ t

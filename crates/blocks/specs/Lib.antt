@@ -19,4 +19,5 @@ pub mod Audit
 pub mod Session
 pub mod Cases
 pub mod Ready
+pub mod Seen
 pub mod Contracts

@@ -1,5 +1,7 @@
 // The declared types of the block heap: what the calls take, keep and answer.
 // The machine itself, document 01 as definitions, is in specs/.
+ghost use mathlib.Core.Path.{_≡_};
+ghost use Rattle.blocks.specs.Registers.{withGrey};
 
 // The register record, in document 01's order.
 #[repr(C)]
@@ -13,6 +15,23 @@ pub struct Regs {
     pub position: u32,
     pub root: u32,
     pub cycle: u32,
+}
+
+// The registers with the grey head g.
+pub fn with_grey(r: Regs, g: u32) -> Regs
+    ensures { λ s. ⌜ s ≡ withGrey g r ⌝ }
+{
+    Regs {
+        blocks: r.blocks,
+        pace: r.pace,
+        phase: r.phase,
+        grey: g,
+        free: r.free,
+        count: r.count,
+        position: r.position,
+        root: r.root,
+        cycle: r.cycle,
+    }
 }
 
 // What a call answers: a refusal number or 0, a value (0 if none), and the units done.
@@ -63,6 +82,14 @@ pub enum Step {
     Whiten,
     Pass,
     Damage,
+}
+
+// What marking sees of a block's references before it writes: none names a white block; one does, which is to be greyed; or one is
+// neither 0 nor an allocated block.
+pub enum Seen {
+    Settled,
+    ToGrey,
+    Damaged,
 }
 
 // What a unit answers: the registers after it, or that it met damage and did nothing.

@@ -6,11 +6,13 @@ use blocks::Outcome;
 use blocks::Regs;
 use blocks::Standing;
 ghost use mathlib.Core.Path.{_≡_};
-ghost use mathlib.Core.Bool.{true};
+ghost use mathlib.Core.Bool.{true, _&&_, _||_};
 ghost use mathlib.Core.List.{List};
 ghost use Prim.Native.Nat.{ℕ, _≤_};
+ghost use lib.Dec.{leb, eqb};
 ghost use lib.ListN.{length};
 ghost use Rattle.blocks.specs.WellFormed.{Block};
+ghost use Rattle.blocks.specs.Block.{isBlock};
 ghost use Rattle.blocks.specs.Heap.{heap};
 ghost use Rattle.blocks.specs.Colouring.{headLegal};
 ghost use Rattle.blocks.specs.Standing.{doomedWhite, standing, standingOf, refusalOf, holderRefusal, targetRefusal};
@@ -37,7 +39,7 @@ pub fn lengths_fit(m: u32, words: usize, colours: usize, bytes: usize) -> bool
 pub fn fits(m: u32, u: u32, words: usize, colours: usize, bytes: usize) -> bool
     ensures { λ r. ⌜ r ≡ fits m u words colours bytes ⌝ }
 {
-    numbers_fit(m, u) && lengths_fit(m, words, colours, bytes)
+    lengths_fit(m, words, colours, bytes) && numbers_fit(m, u)
 }
 
 // Whether b is 0 or a block.
@@ -45,38 +47,54 @@ pub fn is_block_or_none(m: u32, b: u32) -> bool
     requires { ⌜ m ≤ 16384 ⌝ }
     ensures { λ r. ⌜ r ≡ isBlockOrNone m b ⌝ }
 {
-    b == 0 || colours::is_block(m, b)
+    b <= m + 1 && b != 1
 }
 
-// Whether g is a legal grey head in the phase.
-pub fn head_legal(m: u32, phase: u32, g: u32) -> bool
+// Whether the grey head and the position are legal when idle.
+fn idle_legal(g: u32, position: u32) -> bool
+    ensures { λ x. ⌜ x ≡ (eqb g 1 && eqb position 0) ⌝ }
+{
+    g == 1 && position == 0
+}
+
+// The same while marking.
+fn marking_legal(m: u32, g: u32, position: u32) -> bool
     requires { ⌜ m ≤ 16384 ⌝ }
-    ensures { λ r. ⌜ r ≡ headLegal m phase g ⌝ }
+    ensures { λ x. ⌜ x ≡ (eqb position 0 && (eqb g 1 || isBlock m g)) ⌝ }
 {
-    g == 1 || phase == 1 && colours::is_block(m, g)
+    position == 0 && (g == 1 || colours::is_block(m, g))
 }
 
-// Whether the sweep's position is legal.
-pub fn position_legal(r: Regs) -> bool
+// The same while sweeping.
+fn sweeping_legal(m: u32, g: u32, position: u32) -> bool
+    requires { ⌜ m ≤ 16384 ⌝ }
+    ensures { λ x. ⌜ x ≡ (eqb g 1 && isBlock m position) ⌝ }
+{
+    g == 1 && colours::is_block(m, position)
+}
+
+// Whether the phase is legal, and the grey head and the position in it.
+pub fn phase_legal(r: Regs) -> bool
     requires { ⌜ r .blocks ≤ 16384 ⌝ }
-    ensures { λ x. ⌜ x ≡ positionLegal r ⌝ }
+    ensures { λ x. ⌜ x ≡ (leb (r .phase) 2 && (headLegal (r .blocks) (r .phase) (r .grey) && positionLegal r)) ⌝ }
 {
-    if r.phase == 2 {
-        return 2 <= r.position && r.position <= r.blocks + 1;
+    let phase = r.phase;
+    match phase {
+        0 => idle_legal(r.grey, r.position),
+        1 => marking_legal(r.blocks, r.grey, r.position),
+        2 => sweeping_legal(r.blocks, r.grey, r.position),
+        _ => false,
     }
-    r.position == 0
 }
 
-// Whether the registers are legal.
+// Whether the registers are legal. The order of the tests is the cheapest one: they have one refusal number.
 pub fn legal(r: Regs) -> bool
     requires { ⌜ r .blocks ≤ 16384 ⌝ }
     ensures { λ x. ⌜ x ≡ legal r ⌝ }
 {
-    r.phase <= 2
-        && (head_legal(r.blocks, r.phase, r.grey)
-            && (is_block_or_none(r.blocks, r.free)
-                && (is_block_or_none(r.blocks, r.root)
-                    && (r.count <= r.blocks && position_legal(r)))))
+    r.count <= r.blocks
+        && (phase_legal(r)
+            && (is_block_or_none(r.blocks, r.free) && is_block_or_none(r.blocks, r.root)))
 }
 
 // Refusals 1 and 2.
@@ -131,19 +149,19 @@ pub fn target_place(m: u32, t: u32) -> u32
 }
 
 // Whether a white block b is doomed: the one place that looks at phase and position for it.
-pub fn doomed_white(r: Regs, b: u32) -> bool
-    ensures { λ x. ⌜ x ≡ doomedWhite r b ⌝ }
+pub fn doomed_white(phase: u32, position: u32, b: u32) -> bool
+    ensures { λ x. ⌜ ((r : Regs) → r .phase ≡ phase → r .position ≡ position → x ≡ doomedWhite r b) ⌝ }
 {
-    r.phase == 2 && r.position <= b
+    phase == 2 && position <= b
 }
 
 // What a call may do with the block b of colour c.
-pub fn standing(r: Regs, b: u32, c: Colour) -> Standing
-    ensures { λ x. ⌜ x ≡ standing r b c ⌝ }
+pub fn standing(phase: u32, position: u32, b: u32, c: Colour) -> Standing
+    ensures { λ x. ⌜ ((r : Regs) → r .phase ≡ phase → r .position ≡ position → x ≡ standing r b c) ⌝ }
 {
     match c {
         Colour::White => {
-            if doomed_white(r, b) {
+            if doomed_white(phase, position, b) {
                 Standing::Gone
             } else {
                 Standing::Live
@@ -157,14 +175,15 @@ pub fn standing(r: Regs, b: u32, c: Colour) -> Standing
 }
 
 // What a call may do with the block b.
-pub fn standing_of(r: Regs, colours: &[u32], b: u32) -> Standing
-    requires { ⌜ (r .blocks ≤ 16384) × Block (length (now colours)) b ⌝ }
-    ensures { λ x. ⌜ ((ws bs : List ℕ) → x ≡ standingOf (heap r ws (now (colours .entry)) bs) b) ⌝ }
+pub fn standing_of(m: u32, phase: u32, position: u32, colours: &[u32], b: u32) -> Standing
+    requires { ⌜ (m ≤ 16384) × Block (length (now colours)) b ⌝ }
+    ensures { λ x. ⌜ ((r : Regs) (ws bs : List ℕ) → r .blocks ≡ m → r .phase ≡ phase → r .position ≡ position → x ≡ standingOf (heap r ws (now (colours .entry)) bs) b) ⌝ }
 {
     standing(
-        r,
+        phase,
+        position,
         b,
-        colours::colour(r.blocks, colours::word_of(colours, b)),
+        colours::colour(m, colours::word_of(colours, b)),
     )
 }
 
@@ -180,29 +199,37 @@ pub fn refusal_of(gone: u32, s: Standing) -> u32
 }
 
 // Refusals 8 and 5 for the block to read or write.
-pub fn holder_refusal(r: Regs, colours: &[u32], b: u32) -> u32
-    requires { ⌜ (r .blocks ≤ 16384) × Block (length (now colours)) b ⌝ }
-    ensures { λ x. ⌜ ((ws bs : List ℕ) → x ≡ holderRefusal (heap r ws (now (colours .entry)) bs) b) ⌝ }
+pub fn holder_refusal(m: u32, phase: u32, position: u32, colours: &[u32], b: u32) -> u32
+    requires { ⌜ (m ≤ 16384) × Block (length (now colours)) b ⌝ }
+    ensures { λ x. ⌜ ((r : Regs) (ws bs : List ℕ) → r .blocks ≡ m → r .phase ≡ phase → r .position ≡ position → x ≡ holderRefusal (heap r ws (now (colours .entry)) bs) b) ⌝ }
 {
-    refusal_of(5, standing_of(r, colours, b))
+    refusal_of(5, standing_of(m, phase, position, colours, b))
 }
 
 // Refusals 8 and 6 for the target, which is 0 or a block.
-pub fn target_refusal(r: Regs, colours: &[u32], t: u32) -> u32
-    requires { ⌜ (r .blocks ≤ 16384) × (isBlockOrNone (length (now colours)) t ≡ true) ⌝ }
-    ensures { λ x. ⌜ ((ws bs : List ℕ) → x ≡ targetRefusal (heap r ws (now (colours .entry)) bs) t) ⌝ }
+pub fn target_refusal(m: u32, phase: u32, position: u32, colours: &[u32], t: u32) -> u32
+    requires { ⌜ (m ≤ 16384) × (isBlockOrNone (length (now colours)) t ≡ true) ⌝ }
+    ensures { λ x. ⌜ ((r : Regs) (ws bs : List ℕ) → r .blocks ≡ m → r .phase ≡ phase → r .position ≡ position → x ≡ targetRefusal (heap r ws (now (colours .entry)) bs) t) ⌝ }
 {
     if t == 0 {
         return 0;
     }
-    refusal_of(6, standing_of(r, colours, t))
+    refusal_of(6, standing_of(m, phase, position, colours, t))
 }
 
-// Every refusal of Read: 1, 2, 3, then 8 and 5.
-pub fn read_refusal(r: Regs, words: &[u32], colours: &[u32], bytes: &[u8], b: u32, w: u32) -> u32
+// Every refusal of Read, where 1 and 2 are known, e: then 3, then 8 and 5. Who reads many blocks tests for 1 and 2 once.
+pub fn read_refusal_after(
+    e: u32,
+    r: Regs,
+    words: &[u32],
+    colours: &[u32],
+    bytes: &[u8],
+    b: u32,
+    w: u32,
+) -> u32
+    requires { ⌜ e ≡ entry (heap r (now words) (now colours) (now bytes)) ⌝ }
     ensures { λ x. ⌜ x ≡ readRefusal b w (heap r (now (words .entry)) (now (colours .entry)) (now (bytes .entry))) ⌝ }
 {
-    let e = entry(r, words, colours, bytes);
     if e != 0 {
         return e;
     }
@@ -210,7 +237,7 @@ pub fn read_refusal(r: Regs, words: &[u32], colours: &[u32], bytes: &[u8], b: u3
     if p != 0 {
         return p;
     }
-    holder_refusal(r, colours, b)
+    holder_refusal(r.blocks, r.phase, r.position, colours, b)
 }
 
 // What a call gives back: the registers afterwards, the refusal or 0, the value and the units done.

@@ -1,4 +1,4 @@
-// The audit's part on the colour layout: every colour is legal, and the grey list has exactly the grey blocks.
+// The audit's part on the colour layout: the grey list has exactly the grey blocks.
 use super::colour;
 use super::is_block;
 use super::word_of;
@@ -7,22 +7,8 @@ ghost use mathlib.Core.Path.{_≡_};
 ghost use Prim.Native.Nat.{_≤_};
 ghost use lib.ListN.{length};
 ghost use Rattle.blocks.specs.Tests.{if_then_else_};
-ghost use Rattle.blocks.specs.WellFormed.{Block};
-ghost use Rattle.blocks.specs.Colouring.{Colouring, colourWord};
-ghost use Rattle.blocks.specs.Audit.{allFrom, countFrom, walk, legalColour, greyColour, isLegal, isGrey, layoutPasses};
-
-// Whether the colour is legal.
-pub fn legal_colour(c: Colour) -> bool
-    ensures { λ r. ⌜ r ≡ legalColour c ⌝ }
-{
-    match c {
-        Colour::White => true,
-        Colour::Grey => true,
-        Colour::Black => true,
-        Colour::Free => true,
-        Colour::Outside => false,
-    }
-}
+ghost use Rattle.blocks.specs.Colouring.{colourWord};
+ghost use Rattle.blocks.specs.Audit.{countFrom, walk, greyColour, isGrey};
 
 // Whether the colour is grey.
 pub fn grey_colour(c: Colour) -> bool
@@ -37,14 +23,6 @@ pub fn grey_colour(c: Colour) -> bool
     }
 }
 
-// Whether the colour of the block b is legal.
-pub fn is_legal(m: u32, colours: &[u32], b: u32) -> bool
-    requires { ⌜ (m ≤ 16384) × Block (length (now colours)) b ⌝ }
-    ensures { λ r. ⌜ r ≡ isLegal m (now (colours .entry)) b ⌝ }
-{
-    legal_colour(colour(m, word_of(colours, b)))
-}
-
 // Whether b is a grey block.
 pub fn is_grey(m: u32, colours: &[u32], b: u32) -> bool
     requires { ⌜ (m ≤ 16384) × (length (now colours) ≡ m) ⌝ }
@@ -54,22 +32,6 @@ pub fn is_grey(m: u32, colours: &[u32], b: u32) -> bool
         return grey_colour(colour(m, word_of(colours, b)));
     }
     false
-}
-
-// Whether every block's colour is legal.
-pub fn all_legal(m: u32, colours: &[u32]) -> bool
-    requires { ⌜ (m ≤ 16384) × (length (now colours) ≡ m) ⌝ }
-    ensures { λ r. ⌜ r ≡ allFrom (isLegal m (now (colours .entry))) m 2 ⌝ }
-{
-    let mut b = 2;
-    while b <= m + 1 {
-        if is_legal(m, colours, b) {
-            b += 1;
-        } else {
-            return false;
-        }
-    }
-    true
 }
 
 // What a block adds to a count of blocks: 1 where it is counted.
@@ -114,13 +76,10 @@ pub fn walk_greys(m: u32, colours: &[u32], head: u32, n: u32) -> bool
     a == 1
 }
 
-// Whether the colours are legal and the grey list that starts at head has exactly the grey blocks.
-pub fn layout_passes(m: u32, head: u32, colours: &[u32]) -> bool
+// Whether the grey list that starts at head has exactly the grey blocks.
+pub fn greys_pass(m: u32, head: u32, colours: &[u32]) -> bool
     requires { ⌜ (m ≤ 16384) × (length (now colours) ≡ m) ⌝ }
-    ensures { λ r. ⌜ r ≡ layoutPasses m (record { head = head; cells = now (colours .entry) }) ⌝ }
+    ensures { λ r. ⌜ r ≡ walk (isGrey m (now (colours .entry))) (colourWord (now (colours .entry))) 1 (countFrom (isGrey m (now (colours .entry))) m 2) head ⌝ }
 {
-    if all_legal(m, colours) {
-        return walk_greys(m, colours, head, count_greys(m, colours));
-    }
-    false
+    walk_greys(m, colours, head, count_greys(m, colours))
 }

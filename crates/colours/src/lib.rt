@@ -2,12 +2,15 @@
 pub mod layout; // layout.rt: what the audit asks of the colours and of the grey list
 
 use blocks::Colour;
+use blocks::Seen;
 ghost use mathlib.Core.Path.{_≡_};
+ghost use mathlib.Core.Logic.{_≢_};
 ghost use Prim.Native.Nat.{_≤_};
 ghost use lib.ListN.{length, replicate};
 ghost use Rattle.blocks.specs.WellFormed.{Block};
 ghost use Rattle.blocks.specs.Block.{isBlock};
 ghost use Rattle.blocks.specs.Colouring.{Colouring, colour, colourWord, paint, toGrey, toBlack, greyWhite, allocatedColour, freeColour, isAllocated, freshColours};
+ghost use Rattle.blocks.specs.Seen.{seenColour, seen};
 ghost use Rattle.blocks.specs.Tests.{if_then_else_};
 
 // The colour words that are no link.
@@ -22,7 +25,7 @@ pub fn is_block(m: u32, b: u32) -> bool
     requires { ⌜ m ≤ 16384 ⌝ }
     ensures { λ r. ⌜ r ≡ isBlock m b ⌝ }
 {
-    2 <= b && b <= m + 1
+    2 <= b && b - 2 < m
 }
 
 // What a colour word means in a heap of m blocks.
@@ -127,17 +130,44 @@ pub fn to_black(head: u32, colours: &mut [u32]) -> u32
     next
 }
 
-// b, if it is a white block, goes to the front of the grey list that starts at head. Answers the head afterwards.
-pub fn grey_white(m: u32, head: u32, colours: &mut [u32], b: u32) -> u32
-    requires { ⌜ (m ≤ 16384) × (length (now colours) ≡ m) ⌝ }
-    ensures { λ r. ⌜ (record { head = r; cells = now (colours .exit) }) ≡ greyWhite m b (record { head = head; cells = now (colours .entry) }) ⌝ }
+// b, which is 0 or a block, goes to the front of the grey list that starts at head if it is a white block. Answers the head afterwards.
+pub fn grey_white(head: u32, colours: &mut [u32], b: u32) -> u32
+    requires { ⌜ (b ≢ 0 → Block (length (now colours)) b) ⌝ }
+    ensures { λ r. ⌜ (record { head = r; cells = now (colours .exit) }) ≡ greyWhite (length (now (colours .entry))) b (record { head = head; cells = now (colours .entry) }) ⌝ }
 {
-    if is_block(m, b) {
+    if b != 0 {
         if word_of(&colours[..], b) == 0 {
             return to_grey(head, colours, b);
         }
     }
     head
+}
+
+// What a reference to a block of the colour is to the block that is marked.
+pub fn seen_colour(c: Colour) -> Seen
+    ensures { λ r. ⌜ r ≡ seenColour c ⌝ }
+{
+    match c {
+        Colour::White => Seen::ToGrey,
+        Colour::Grey => Seen::Settled,
+        Colour::Black => Seen::Settled,
+        Colour::Free => Seen::Damaged,
+        Colour::Outside => Seen::Damaged,
+    }
+}
+
+// What the reference b is to the block that is marked.
+pub fn seen(m: u32, colours: &[u32], b: u32) -> Seen
+    requires { ⌜ (m ≤ 16384) × (length (now colours) ≡ m) ⌝ }
+    ensures { λ r. ⌜ r ≡ seen m (now (colours .entry)) b ⌝ }
+{
+    if b == 0 {
+        return Seen::Settled;
+    }
+    if is_block(m, b) {
+        return seen_colour(colour(m, word_of(colours, b)));
+    }
+    Seen::Damaged
 }
 
 // Every block free: what Format makes of the colour buffer.

@@ -2,40 +2,30 @@
 use blocks::Outcome;
 use blocks::Regs;
 ghost use mathlib.Core.Path.{_≡_};
-ghost use Prim.Native.Nat.{_+_, _*_, _≤_};
-ghost use lib.Dec.{eqb};
+ghost use Prim.Native.Nat.{_*_, _≤_};
 ghost use lib.ListN.{length};
-ghost use Rattle.blocks.specs.Tests.{if_then_else_};
 ghost use Rattle.blocks.specs.Registers.{freshRegs};
 ghost use Rattle.blocks.specs.Heap.{heap};
 ghost use Rattle.blocks.specs.Answers.{given};
 ghost use Rattle.blocks.specs.Format.{freeList, format};
 
-// The link of the free block b that is followed by as many blocks as are left: the next block, or 0.
-fn link(left: u32, b: u32) -> u32
-    requires { ⌜ b ≤ 16385 ⌝ }
-    ensures { λ r. ⌜ r ≡ (if eqb left 0 then 0 else b + 1) ⌝ }
-{
-    if left == 0 {
-        return 0;
-    }
-    b + 1
-}
-
-// The words of m free blocks, linked in rising order.
+// The words of m free blocks, linked in rising order; the last one's link is 0.
 fn link_all(words: &mut [u32], m: u32)
-    requires { ⌜ (m ≤ 16384) × (length (now words) ≡ 8 * m) ⌝ }
+    requires { ⌜ (1 ≤ m) × (m ≤ 16384) × (length (now words) ≡ 8 * m) ⌝ }
     ensures { λ _. ⌜ now (words .exit) ≡ freeList m 2 ⌝ }
 {
     let mut b = 2;
     let mut left = m;
-    while left > 0 {
+    while left > 1 {
         left -= 1;
         let at = 8 * (b as usize - 2);
         let end = at + 8;
-        cells::clear(&mut words[at..end], link(left, b));
+        cells::clear(&mut words[at..end], b + 1);
         b += 1;
     }
+    let from = 8 * (b as usize - 2);
+    let to = from + 8;
+    cells::clear(&mut words[from..to], 0);
 }
 
 // The registers of a fresh heap of m blocks with pace u.

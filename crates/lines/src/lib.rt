@@ -159,7 +159,7 @@ fn with_three(letter: u8, x: u32, y: u32, z: u32) -> Command
 }
 
 // What a letter and numbers ask for.
-fn asked(letter: u8, n: Numbers) -> Command
+pub fn asked(letter: u8, n: Numbers) -> Command
     ensures { λ r. ⌜ ((vs : List ℕ) → n ≡ packed vs → r ≡ meant letter vs) ⌝ }
 {
     if n.count == 0 {

@@ -38,7 +38,7 @@ fn is_live(s: Standing) -> bool
 fn may_be_named(r: Regs, strict: bool, x: u32, c: Colour) -> bool
     ensures { λ t. ⌜ t ≡ mayBeNamed r strict x c ⌝ }
 {
-    if is_live(checks::standing(r, x, c)) {
+    if is_live(checks::standing(r.phase, r.position, x, c)) {
         if strict {
             return not_white(c);
         }
@@ -77,14 +77,16 @@ fn word_passes(r: Regs, colours: &[u32], strict: bool, reference: bool, x: u32) 
     true
 }
 
-// Whether every reference among a block's eight words may hold what it holds.
+// Whether every reference among a block's eight words may hold what it holds. The rest of the byte tells when there are no more.
 pub fn may_name_all(r: Regs, colours: &[u32], strict: bool, part: &[u32], byte: u8) -> bool
     requires { ⌜ (r .blocks ≤ 16384) × (length (now colours) ≡ r .blocks) × (length (now part) ≡ 8) ⌝ }
     ensures { λ t. ⌜ t ≡ mayNameAll r (now (colours .entry)) strict (references (now (part .entry)) byte) ⌝ }
 {
+    let mut rest = byte;
     let mut w = 0;
-    while w < 8 {
-        if word_passes(r, colours, strict, cells::bit(byte, w), part[w]) {
+    while rest != 0 {
+        if word_passes(r, colours, strict, rest % 2 == 1, part[w]) {
+            rest /= 2;
             w += 1;
         } else {
             return false;

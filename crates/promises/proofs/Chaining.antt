@@ -1,6 +1,7 @@
 -- What a reader of a list wants: a chain of references from the root that no call touches is the same chain afterwards.
 --     chain-reachable          every block of a chain from a reachable block is reachable
 --     chain-same               a chain whose blocks keep their words is a chain still
+--     stays-no-reset, call-root     a call that doesn't change the root is no Format that answers 0, and leaves the root
 --     chains-last              the promise
 -- Assumes nothing.
 use Prim.Native.Nat.{ℕ, zero, suc, _≤_}
@@ -30,6 +31,7 @@ use Rattle.promises.specs.Demand2.{Chain, last, onto, ChangesRoot, Untou
 use Rattle.promises.proofs.Viewing.{wf-shape, wf-sound}
 use Rattle.promises.proofs.DeedMoves.{barrier-keeps, deed-move, deed-formed}
 use Rattle.promises.proofs.Calls.{deeds-allowed}
+use Rattle.promises.proofs.Courses.{call-is}
 use Rattle.promises.proofs.Keeping.{call-formed}
 use Rattle.promises.proofs.Losing.{word-join, call-safe}
 
@@ -93,7 +95,7 @@ call-stays (Work k) h n = if-ind AllStay (eqb (entry h ▷ countRefusal k) 0) (�
 call-stays Audit h n = tt
 
 -- a call that leaves the root alone is no Format
-stays-no-reset : (c : Call) (h : Heap) → (ChangesRoot c → ⊥) → Resets c h → ⊥
+pub stays-no-reset : (c : Call) (h : Heap) → (ChangesRoot c → ⊥) → Resets c h → ⊥
 stays-no-reset (Format m u) h n z = n tt
 stays-no-reset (Read b w) h n z = z
 stays-no-reset (Look b) h n z = z
@@ -104,6 +106,10 @@ stays-no-reset (Allocate b w) h n z = z
 stays-no-reset (Work k) h n z = z
 stays-no-reset Audit h n z = z
 
+pub call-root : (h : Heap) → WellFormed h → (c : Call) → (ChangesRoot c → ⊥) → does c h .heap .regs .root ≡ h .regs .root
+call-root h f c n =
+    ap (λ (j : Heap). j .regs .root) (call-is h f c (stays-no-reset c h n)) ∙ deeds-root (deeds c h) h f (deeds-allowed h f c) (call-stays c h n)
+
 lasts : (cs : List Call) (h : Heap) → WellFormed h → (a : ℕ) (bs : List ℕ) → h .regs .root ≡ a → a ≢ 0 → Chain h a bs → Untouched cs (a ∷ bs) → ChainLasts h (session cs h) a bs
 unfolding session
 lasts [] h f a bs e z c u = record { root = e; chain = c; words = λ b w i l. record { word = refl; bit = refl } }
@@ -113,7 +119,7 @@ lasts (x ∷ cs) h f a bs e z c u =
     let k = does x h .heap in
     let r = chain-reachable c (isRoot (sym e) z) in
     let same : (b w : ℕ) → List·Memᴰ b (a ∷ bs) → w ≤ 7 → SameWord h k b w = λ b w i l. s .same b w (r b i) l (u .0 .1 b w i l) in
-    let root : k .regs .root ≡ a = ap (λ (j : Heap). j .regs .root) (s .whole) ∙ deeds-root (deeds x h) h f (deeds-allowed h f x) (call-stays x h (u .0 .0)) ∙ e in
+    let root : k .regs .root ≡ a = call-root h f x (u .0 .0) ∙ e in
     let t = lasts cs k (call-formed h f x) a bs root z (chain-same c same) (u .1) in
     record { root = t .root; chain = t .chain; words = λ b w i l. word-join (same b w i l) (t .words b w i l) }
 

@@ -2,6 +2,7 @@
 --     cycles-enough            N cycles' worth of allocations pay for a cycle: 2M + 2 ≤ U · N
 --     Split                    deeds as units and then at most one other move
 --     call-pays                an allocation does its units before it takes
+--     call-keeps               a call that formats nothing keeps M and the pace
 --     room-enough, margin      the promises
 -- Assumes nothing.
 use Prim.Native.Nat.{ℕ, zero, suc, _+_, _-_, _*_, _/_, _≤_}
@@ -189,7 +190,7 @@ call-event m u c h l e q f n p =
     })
 
 -- M and the pace after a call
-call-keeps : (h : Heap) → WellFormed h → (c : Call) → (Resets c h → ⊥) → (does c h .heap .regs .blocks ≡ h .regs .blocks) × (does c h .heap .regs .pace ≡ h .regs .pace)
+pub call-keeps : (h : Heap) → WellFormed h → (c : Call) → (Resets c h → ⊥) → (does c h .heap .regs .blocks ≡ h .regs .blocks) × (does c h .heap .regs .pace ≡ h .regs .pace)
 call-keeps h f c n =
     let e = call-is h f c n in
     let q = deeds-run (h .regs .blocks) (deeds c h) h refl f (deeds-allowed h f c) in

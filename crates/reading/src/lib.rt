@@ -13,10 +13,11 @@ pub fn read(r: Regs, words: &[u32], colours: &[u32], bytes: &[u8], b: u32, w: u3
         ≡ read b w (heap r (now (words .entry)) (now (colours .entry)) (now (bytes .entry)))
         ⌝ }
 {
-    let e = checks::read_refusal(r, words, colours, bytes, b, w);
-    if e != 0 {
+    let e = checks::entry(r, words, colours, bytes);
+    let n = checks::read_refusal_after(e, r, words, colours, bytes, b, w);
+    if n != 0 {
         return ReadAnswer {
-            refusal: e,
+            refusal: n,
             value: 0,
             units: 0,
             reference: 0,
@@ -48,8 +49,9 @@ pub fn look<'a>(r: Regs, words: &'a [u32], colours: &[u32], bytes: &[u8], b: u32
         × (x .ptr ≡ moved (words .entry .ptr) (lookAt b (heap r (now (words .entry)) (now (colours .entry)) (now (bytes .entry)))))
         ⌝ }
 {
-    let e = checks::read_refusal(r, words, colours, bytes, b, 0);
-    if e != 0 {
+    let e = checks::entry(r, words, colours, bytes);
+    let n = checks::read_refusal_after(e, r, words, colours, bytes, b, 0);
+    if n != 0 {
         return &words[0..0];
     }
     let at = 8 * (b as usize - 2);

@@ -2,6 +2,7 @@
 use blocks::Outcome;
 use blocks::Regs;
 ghost use mathlib.Core.Path.{_≡_};
+ghost use mathlib.Core.Logic.{_≢_};
 ghost use mathlib.Core.List.{List};
 ghost use Prim.Native.Nat.{ℕ, _*_, _≤_};
 ghost use lib.ListN.{length, set};
@@ -11,14 +12,14 @@ ghost use Rattle.blocks.specs.Heap.{heap};
 ghost use Rattle.blocks.specs.Answers.{given};
 ghost use Rattle.blocks.specs.Store.{barrier, putNumber, putReference, storeNumber, storeRefusal, storeReference, rootRefusal, setRoot};
 
-// The barrier: while marking, a white target is greyed. Answers the registers afterwards.
+// The barrier: while marking, a white target is greyed, which is 0 or a block. Answers the registers afterwards.
 pub fn barrier(r: Regs, colours: &mut [u32], t: u32) -> Regs
-    requires { ⌜ (r .blocks ≤ 16384) × (length (now colours) ≡ r .blocks) ⌝ }
+    requires { ⌜ (length (now colours) ≡ r .blocks) × (t ≢ 0 → Block (r .blocks) t) ⌝ }
     ensures { λ s. ⌜ ((ws bs : List ℕ) → heap s ws (now (colours .exit)) bs ≡ barrier t (heap r ws (now (colours .entry)) bs)) ⌝ }
 {
     let mut s = r;
     if r.phase == 1 {
-        let head = colours::grey_white(r.blocks, r.grey, colours, t);
+        let head = colours::grey_white(r.grey, colours, t);
         s.grey = head;
     }
     s
@@ -54,7 +55,7 @@ pub fn root_refusal(r: Regs, words: &[u32], colours: &[u32], bytes: &[u8], t: u3
     if p != 0 {
         return p;
     }
-    checks::target_refusal(r, colours, t)
+    checks::target_refusal(r.blocks, r.phase, r.position, colours, t)
 }
 
 // Every refusal of Store reference: 1, 2, 3, 4, then 8 and 5 for the block, then 8 and 6 for the target.
@@ -81,11 +82,11 @@ pub fn store_refusal(
     if q != 0 {
         return q;
     }
-    let d = checks::holder_refusal(r, colours, b);
+    let d = checks::holder_refusal(r.blocks, r.phase, r.position, colours, b);
     if d != 0 {
         return d;
     }
-    checks::target_refusal(r, colours, t)
+    checks::target_refusal(r.blocks, r.phase, r.position, colours, t)
 }
 
 // Store number: word w of the block b becomes the number v.
@@ -100,9 +101,10 @@ pub fn store_number(
 ) -> Outcome
     ensures { λ o. ⌜ given o (now (words .exit)) (now (colours .exit)) (now (bytes .exit)) ≡ storeNumber b w v (heap r (now (words .entry)) (now (colours .entry)) (now (bytes .entry))) ⌝ }
 {
-    let e = checks::read_refusal(r, &words[..], &colours[..], &bytes[..], b, w);
-    if e != 0 {
-        return checks::refused(r, e);
+    let e = checks::entry(r, &words[..], &colours[..], &bytes[..]);
+    let n = checks::read_refusal_after(e, r, &words[..], &colours[..], &bytes[..], b, w);
+    if n != 0 {
+        return checks::refused(r, n);
     }
     put_number(words, bytes, b, w, v);
     checks::done(r, 0)

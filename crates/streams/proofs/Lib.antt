@@ -1,2 +1,4 @@
 -- What is proved of streams alone.
-pub mod Cutting
+pub mod Cuts
+pub mod Reading
+pub mod Writing

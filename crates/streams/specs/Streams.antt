@@ -10,7 +10,7 @@ use mathlib.Core.List.{List, [], _∷_, _++_}
 use lib.Dec.{eqb, ltb}
 use lib.ListN.{length, take, drop}
 use Rattle.blocks.specs.Tests.{if_then_else_}
-use Rattle.streams.specs.declared.Cut.{Cut}
+use Rattle.streams.specs.declared.cutting.Cut.{Cut}
 
 unfoldable pub lineOf : List ℕ → List ℕ
 lineOf [] = []

@@ -1,4 +1,5 @@
 -- `allocating::take_refusal` meets its contract. Assumes nothing.
+use mathlib.Core.Path.{refl}
 use Rattle.blocks.proofs.Allocating.{take-none, take-stops, take-passes}
 use Rattle.blocks.proofs.Blocks.{block-as}
 use Rattle.allocating.proofs.take_refusal.Statement.{statement}
@@ -20,7 +21,7 @@ holder-refusal-requires c κs =
 returns-2 : tie.Need-returns-2
 returns-2 c =
     let c-if1 = c .before .before .if1 in
-    λ bs. take-stops _ _ (c-if1 .left) (c .before .holder-refusal .ensures _ bs) (c .if2 .taken)
+    λ bs. take-stops _ _ (c-if1 .left) (c .before .holder-refusal .ensures _ _ bs refl refl refl) (c .if2 .taken)
 
 list-refusal-requires-2 : tie.Need-list-refusal-requires-2
 list-refusal-requires-2 c κs =
@@ -31,7 +32,7 @@ returns-3 : tie.Need-returns-3
 returns-3 c =
     let c-if1 = c .before .before .before .if1 in
     let c-holder-refusal = c .before .before .holder-refusal in
-    λ bs. take-passes _ _ (c-if1 .left) (c-holder-refusal .ensures _ bs) (c .before .if2 .left) (c .list-refusal2 .ensures bs)
+    λ bs. take-passes _ _ (c-if1 .left) (c-holder-refusal .ensures _ _ bs refl refl refl) (c .before .if2 .left) (c .list-refusal2 .ensures bs)
 
 pub take-refusal-spec : {M : Type 1} → statement M
 take-refusal-spec =

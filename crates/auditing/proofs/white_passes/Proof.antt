@@ -1,4 +1,5 @@
 -- `auditing::white_passes` meets its contract. Assumes nothing.
+use mathlib.Core.Path.{refl}
 use Rattle.blocks.proofs.Tests.{so}
 use Rattle.blocks.proofs.Passing.{white-doomed, white-as}
 use borrow.Author.Needs.{needs}
@@ -9,7 +10,7 @@ doomed-white-requires : tie.Need-doomed-white-requires
 doomed-white-requires c κs = search needs
 
 returns : tie.Need-returns
-returns c = white-doomed _ _ _ _ _ (so (c .before .doomed-white .ensures) (c .if1 .taken))
+returns c = white-doomed _ _ _ _ _ (so (c .before .doomed-white .ensures _ refl refl) (c .if1 .taken))
 
 may-name-all-requires : tie.Need-may-name-all-requires
 may-name-all-requires c κs = search needs
@@ -17,7 +18,7 @@ may-name-all-requires c κs = search needs
 returns-2 : tie.Need-returns-2
 returns-2 c =
     let c-doomed-white = c .before .before .doomed-white in
-    white-as _ _ _ _ _ _ (so (c-doomed-white .ensures) (c .before .if1 .left)) (c .may-name-all .ensures)
+    white-as _ _ _ _ _ _ (so (c-doomed-white .ensures _ refl refl) (c .before .if1 .left)) (c .may-name-all .ensures)
 
 pub white-passes-spec : {M : Type 1} → statement M
 white-passes-spec =

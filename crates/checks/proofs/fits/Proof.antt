@@ -1,25 +1,28 @@
 -- `checks::fits` meets its contract. Assumes nothing.
+use mathlib.Core.Path.{_∙_}
 use Rattle.blocks.proofs.Tests.{so}
-use Rattle.blocks.specs.Entry.{fits}
+use Rattle.blocks.proofs.Entering.{fits-lengths, unfit-lengths}
 use borrow.Author.Needs.{needs}
 use Rattle.checks.proofs.fits.Statement.{statement}
 use Rattle.checks.proofs.fits.Tie as tie
 
-numbers-fit-requires : tie.Need-numbers-fit-requires
-numbers-fit-requires c κs = search needs
-
 lengths-fit-requires : tie.Need-lengths-fit-requires
 lengths-fit-requires c κs = search needs
 
+numbers-fit-requires : tie.Need-numbers-fit-requires
+numbers-fit-requires c κs = search needs
+
 returns : tie.Need-returns
-unfolding fits
-returns c =
-    let c-numbers-fit = c .before .before .numbers-fit in
-    simp (so (c-numbers-fit .ensures) (c .before .if1 .taken)) (c .lengths-fit .ensures)
+returns c = fits-lengths _ _ _ _ _ (so (c .before .before .lengths-fit .ensures) (c .before .if1 .taken)) (c .numbers-fit .ensures)
 
 returns-2 : tie.Need-returns-2
-unfolding fits
-returns-2 c = simp (c .if1 .left, so (c .before .numbers-fit .ensures) (c .if1 .left))
+returns-2 c = c .if1 .left ∙ unfit-lengths _ (c .before .before .args .u) _ _ _ (so (c .before .lengths-fit .ensures) (c .if1 .left))
 
 pub fits-spec : {M : Type 1} → statement M
-fits-spec = tie.close (tie.spec numbers-fit-requires lengths-fit-requires returns returns-2)
+fits-spec =
+    tie.close
+    (tie.spec
+    lengths-fit-requires
+    numbers-fit-requires
+    returns
+    returns-2)

@@ -11,7 +11,12 @@ refusal-of-requires : tie.Need-refusal-of-requires
 refusal-of-requires c κs = search needs
 
 returns : tie.Need-returns
-returns c = λ ws bs. holder-as _ _ _ _ (c .before .standing-of .ensures ws bs) (c .refusal-of .ensures)
+returns c = λ r ws bs m p q. holder-as _ _ _ _ (c .before .standing-of .ensures r ws bs m p q) (c .refusal-of .ensures)
 
 pub holder-refusal-spec : {M : Type 1} → statement M
-holder-refusal-spec = tie.close (tie.spec standing-of-requires refusal-of-requires returns)
+holder-refusal-spec =
+    tie.close
+    (tie.spec
+    standing-of-requires
+    refusal-of-requires
+    returns)

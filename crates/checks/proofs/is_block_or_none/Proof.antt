@@ -1,20 +1,24 @@
 -- `checks::is_block_or_none` meets its contract. Assumes nothing.
-use borrow.Author.Tests.{eq-eqb, ne-eqb}
-use Rattle.blocks.specs.Entry.{isBlockOrNone}
+use mathlib.Core.Path.{_∙_}
+use borrow.Author.Tests.{lt-leb}
+use Rattle.blocks.proofs.Entering.{none-or-high, none-above}
 use borrow.Author.Needs.{needs}
 use Rattle.checks.proofs.is_block_or_none.Statement.{statement}
 use Rattle.checks.proofs.is_block_or_none.Tie as tie
 
-is-block-requires : tie.Need-is-block-requires
-is-block-requires c κs = search needs
+add-if1 : tie.Need-add-if1
+add-if1 c = search needs
 
 returns : tie.Need-returns
-unfolding isBlockOrNone
-returns c = simp (eq-eqb _ _ (c .if1 .taken))
+returns c = none-or-high _ _ (c .if1 .taken)
 
 returns-2 : tie.Need-returns-2
-unfolding isBlockOrNone
-returns-2 c = simp (ne-eqb _ _ (c .before .if1 .left)) (c .is-block .ensures)
+returns-2 c = lt-leb _ _ (c .if1 .left) ∙ none-above _ _ (c .if1 .left)
 
 pub is-block-or-none-spec : {M : Type 1} → statement M
-is-block-or-none-spec = tie.close (tie.spec is-block-requires returns returns-2)
+is-block-or-none-spec =
+    tie.close
+    (tie.spec
+    add-if1
+    returns
+    returns-2)

@@ -1,13 +1,14 @@
 -- `checks::legal` meets its contract. Assumes nothing.
+use mathlib.Core.Path.{_∙_}
 use borrow.Author.Tests.{le-leb, lt-leb}
 use Rattle.blocks.proofs.Tests.{so}
-use Rattle.blocks.specs.Entry.{legal}
+use Rattle.blocks.proofs.Entering.{legal-as, illegal-phase, illegal-free, illegal-count}
 use borrow.Author.Needs.{needs}
 use Rattle.checks.proofs.legal.Statement.{statement}
 use Rattle.checks.proofs.legal.Tie as tie
 
-head-legal-requires : tie.Need-head-legal-requires
-head-legal-requires c κs = search needs
+phase-legal-requires : tie.Need-phase-legal-requires
+phase-legal-requires c κs = search needs
 
 is-block-or-none-requires : tie.Need-is-block-or-none-requires
 is-block-or-none-requires c κs = search needs
@@ -15,72 +16,34 @@ is-block-or-none-requires c κs = search needs
 is-block-or-none-requires-2 : tie.Need-is-block-or-none-requires-2
 is-block-or-none-requires-2 c κs = search needs
 
-position-legal-requires : tie.Need-position-legal-requires
-position-legal-requires c κs = search needs
-
 returns : tie.Need-returns
-unfolding legal
 returns c =
-    let c-if1 = c .before .before .before .before .before .before .before .before .before .if1 in
-    let c-head-legal = c .before .before .before .before .before .before .before .before .head-legal in
-    let c-if2 = c .before .before .before .before .before .before .before .if2 in
-    let c-is-block-or-none = c .before .before .before .before .before .before .is-block-or-none in
-    let c-if3 = c .before .before .before .before .before .if3 in
-    let c-is-block-or-none2 = c .before .before .before .before .is-block-or-none2 in
-    let c-if4 = c .before .before .before .if4 in
-    simp (le-leb _ _ (c-if1 .taken), so (c-head-legal .ensures) (c-if2 .taken), so (c-is-block-or-none .ensures) (c-if3 .taken), so (c-is-block-or-none2 .ensures) (c-if4 .taken), le-leb _ _ (c .before .if5 .taken)) (c .position-legal .ensures)
+    let c-args = c .before .before .before .before .before .before .before .args in
+    let c-if1 = c .before .before .before .before .before .if1 in
+    let c-phase-legal = c .before .before .before .before .phase-legal in
+    legal-as (c-args .r) (le-leb _ _ (c-if1 .taken)) (so (c-phase-legal .ensures) (c .before .before .before .if2 .taken)) (so (c .before .before .is-block-or-none .ensures) (c .before .if3 .taken)) (c .is-block-or-none2 .ensures)
 
 returns-2 : tie.Need-returns-2
-unfolding legal
 returns-2 c =
-    let c-if1 = c .before .before .before .before .before .before .before .before .if1 in
-    let c-head-legal = c .before .before .before .before .before .before .before .head-legal in
-    let c-if2 = c .before .before .before .before .before .before .if2 in
-    let c-is-block-or-none = c .before .before .before .before .before .is-block-or-none in
-    let c-if3 = c .before .before .before .before .if3 in
-    let c-is-block-or-none2 = c .before .before .before .is-block-or-none2 in
-    let c-if4 = c .before .before .if4 in
-    simp (le-leb _ _ (c-if1 .taken), so (c-head-legal .ensures) (c-if2 .taken), so (c-is-block-or-none .ensures) (c-if3 .taken), so (c-is-block-or-none2 .ensures) (c-if4 .taken), lt-leb _ _ (c .if5 .left))
+    let c-args = c .before .before .before .before .before .before .args in
+    c .if3 .left ∙ illegal-free (c-args .r) (so (c .before .is-block-or-none .ensures) (c .if3 .left))
 
 returns-3 : tie.Need-returns-3
-unfolding legal
 returns-3 c =
-    let c-if1 = c .before .before .before .before .before .before .if1 in
-    let c-head-legal = c .before .before .before .before .before .head-legal in
-    let c-if2 = c .before .before .before .before .if2 in
-    let c-is-block-or-none = c .before .before .before .is-block-or-none in
-    let c-if3 = c .before .before .if3 in
-    simp (le-leb _ _ (c-if1 .taken), so (c-head-legal .ensures) (c-if2 .taken), so (c-is-block-or-none .ensures) (c-if3 .taken), c .if4 .left, so (c .before .is-block-or-none2 .ensures) (c .if4 .left))
+    let c-args = c .before .before .before .before .args in
+    c .if2 .left ∙ illegal-phase (c-args .r) (so (c .before .phase-legal .ensures) (c .if2 .left))
 
 returns-4 : tie.Need-returns-4
-unfolding legal
-returns-4 c =
-    let c-if1 = c .before .before .before .before .if1 in
-    let c-head-legal = c .before .before .before .head-legal in
-    let c-if2 = c .before .before .if2 in
-    simp (le-leb _ _ (c-if1 .taken), so (c-head-legal .ensures) (c-if2 .taken), c .if3 .left, so (c .before .is-block-or-none .ensures) (c .if3 .left))
-
-returns-5 : tie.Need-returns-5
-unfolding legal
-returns-5 c =
-    let c-if1 = c .before .before .if1 in
-    simp (le-leb _ _ (c-if1 .taken), c .if2 .left, so (c .before .head-legal .ensures) (c .if2 .left))
-
-returns-6 : tie.Need-returns-6
-unfolding legal
-returns-6 c = simp (lt-leb _ _ (c .if1 .left))
+returns-4 c = lt-leb _ _ (c .if1 .left) ∙ illegal-count (c .before .before .args .r) (lt-leb _ _ (c .if1 .left))
 
 pub legal-spec : {M : Type 1} → statement M
 legal-spec =
     tie.close
     (tie.spec
-    head-legal-requires
+    phase-legal-requires
     is-block-or-none-requires
     is-block-or-none-requires-2
-    position-legal-requires
     returns
     returns-2
     returns-3
-    returns-4
-    returns-5
-    returns-6)
+    returns-4)

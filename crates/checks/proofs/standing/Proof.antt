@@ -26,30 +26,26 @@ enum-told-5 : tie.Need-enum-told-5
 enum-told-5 c = search needs
 
 returns : tie.Need-returns
-returns c =
-    let c-enum-told = c .before .before .enum-told in
-    rw (c-enum-told .given .1) (white-doomed _ _ (so (c .before .doomed-white .ensures) (c .if1 .taken)))
+returns c = λ r p q. rw (c .before .before .enum-told .given .1) (white-doomed r _ (so (c .before .doomed-white .ensures r p q) (c .if1 .taken)))
 
 returns-2 : tie.Need-returns-2
-returns-2 c =
-    let c-enum-told = c .before .before .enum-told in
-    rw (c-enum-told .given .1) (white-stays _ _ (so (c .before .doomed-white .ensures) (c .if1 .left)))
+returns-2 c = λ r p q. rw (c .before .before .enum-told .given .1) (white-stays r _ (so (c .before .doomed-white .ensures r p q) (c .if1 .left)))
 
 returns-3 : tie.Need-returns-3
 unfolding standing
-returns-3 c = rw (c .enum-told2 .given .1) refl
+returns-3 c = λ r p q. rw (c .enum-told2 .given .1) refl
 
 returns-4 : tie.Need-returns-4
 unfolding standing
-returns-4 c = rw (c .enum-told3 .given .1) refl
+returns-4 c = λ r p q. rw (c .enum-told3 .given .1) refl
 
 returns-5 : tie.Need-returns-5
 unfolding standing
-returns-5 c = rw (c .enum-told4 .given .1) refl
+returns-5 c = λ r p q. rw (c .enum-told4 .given .1) refl
 
 returns-6 : tie.Need-returns-6
 unfolding standing
-returns-6 c = rw (c .enum-told5 .given .1) refl
+returns-6 c = λ r p q. rw (c .enum-told5 .given .1) refl
 
 pub standing-spec : {M : Type 1} → statement M
 standing-spec =

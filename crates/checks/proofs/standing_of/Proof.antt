@@ -14,9 +14,13 @@ standing-requires : tie.Need-standing-requires
 standing-requires c κs = search needs
 
 returns : tie.Need-returns
-returns c =
-    let c-word-of = c .before .before .word-of in
-    λ ws bs. standing-as _ _ _ _ _ (c-word-of .ensures) (c .before .colour .ensures) (c .standing .ensures)
+returns c = λ r ws bs m p q. standing-as _ _ _ _ _ (c .before .before .word-of .ensures) (rw m (c .before .colour .ensures)) (c .standing .ensures r p q)
 
 pub standing-of-spec : {M : Type 1} → statement M
-standing-of-spec = tie.close (tie.spec word-of-requires colour-requires standing-requires returns)
+standing-of-spec =
+    tie.close
+    (tie.spec
+    word-of-requires
+    colour-requires
+    standing-requires
+    returns)

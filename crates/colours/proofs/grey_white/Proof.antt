@@ -1,27 +1,18 @@
 -- `colours::grey_white` meets its contract: a law of the layout for each way out. Assumes nothing.
 use mathlib.Core.Path.{_∙_}
+use native.Mathlib.Omega.{arith}
 use Rattle.blocks.proofs.Tests.{so}
-use Rattle.blocks.proofs.Blocks.{block-within}
+use Rattle.blocks.proofs.Blocks.{block-isBlock, below-isBlock}
 use Rattle.blocks.proofs.Colours.{not-a-block, not-white, was-white}
 use borrow.Author.Needs.{needs}
 use Rattle.colours.proofs.grey_white.Statement.{statement}
 use Rattle.colours.proofs.grey_white.Tie as tie
 
-is-block-requires : tie.Need-is-block-requires
-is-block-requires c κs = search needs
-
 word-of-requires : tie.Need-word-of-requires
-word-of-requires c κs =
-    let c-pre = c .before .before .before .before .pre in
-    let c-is-block = c .before .before .is-block in
-    block-within (c-pre .1) (so (c-is-block .ensures) (c .before .if1 .taken))
+word-of-requires c κs = c .before .before .before .pre (c .before .if1 .taken)
 
 to-grey-requires : tie.Need-to-grey-requires
-to-grey-requires c κs =
-    let c-pre = c .before .before .before .before .before .before .before .pre in
-    let c-is-block = c .before .before .before .before .before .is-block in
-    let c-if1 = c .before .before .before .before .if1 in
-    block-within (c-pre .1) (so (c-is-block .ensures) (c-if1 .taken))
+to-grey-requires c κs = c .before .before .before .before .before .before .pre (c .before .before .before .before .if1 .taken)
 
 same-length : tie.Need-same-length
 same-length c = search needs
@@ -29,11 +20,11 @@ same-length c = search needs
 returns : tie.Need-returns
 returns c =
     let c-to-grey = c .before .before .to-grey in
-    let c-is-block = c .before .before .before .before .before .before .before .before .is-block in
+    let c-pre = c .before .before .before .before .before .before .before .before .before .pre in
     let c-if1 = c .before .before .before .before .before .before .before .if1 in
     let c-word-of = c .before .before .before .before .before .word-of in
     let c-if2 = c .before .before .before .before .if2 in
-    c-to-grey .ensures ∙ was-white _ _ _ (so (c-is-block .ensures) (c-if1 .taken)) (so (c-word-of .ensures) (c-if2 .taken))
+    c-to-grey .ensures ∙ was-white _ _ _ (block-isBlock _ _ (c-pre (c-if1 .taken))) (so (c-word-of .ensures) (c-if2 .taken))
 
 same-length-2 : tie.Need-same-length-2
 same-length-2 c = search needs
@@ -42,13 +33,12 @@ returns-2 : tie.Need-returns-2
 returns-2 c = not-white _ _ _ (λ z. c .if2 .left (c .before .word-of .ensures ∙ z))
 
 returns-3 : tie.Need-returns-3
-returns-3 c = not-a-block _ _ _ (so (c .before .is-block .ensures) (c .if1 .left))
+returns-3 c = not-a-block _ _ _ (below-isBlock _ _ (omega arith))
 
 pub grey-white-spec : {M : Type 1} → statement M
 grey-white-spec =
     tie.close
     (tie.spec
-    is-block-requires
     word-of-requires
     to-grey-requires
     same-length

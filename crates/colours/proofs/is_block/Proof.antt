@@ -1,20 +1,16 @@
 -- `colours::is_block` meets its contract. Assumes nothing.
-use borrow.Author.Needs.{needs}
-use borrow.Author.Tests.{le-leb, lt-leb}
+use borrow.Author.Tests.{lt-leb}
+use Rattle.blocks.proofs.Blocks.{within-isBlock}
 use Rattle.blocks.specs.Block.{isBlock}
 use Rattle.colours.proofs.is_block.Statement.{statement}
 use Rattle.colours.proofs.is_block.Tie as tie
 
-add-result : tie.Need-add-result
-add-result c = search needs
-
 returns : tie.Need-returns
-unfolding isBlock
-returns c = simp (le-leb _ _ (c .if1 .taken))
+returns c = within-isBlock _ _ (c .if1 .taken)
 
 returns-2 : tie.Need-returns-2
 unfolding isBlock
 returns-2 c = simp (lt-leb _ _ (c .if1 .left))
 
 pub is-block-spec : {M : Type 1} → statement M
-is-block-spec = tie.close (tie.spec add-result returns returns-2)
+is-block-spec = tie.close (tie.spec returns returns-2)

@@ -13,7 +13,7 @@ fits-requires c κs = search needs
 link-all-requires : tie.Need-link-all-requires
 link-all-requires c κs =
     let c-fits2 = c .before .before .fits2 in
-    let p = fits-parts _ _ _ _ _ (so (c-fits2 .ensures) (c .before .if1 .taken)) in (p .0, p .1)
+    let p = fits-parts _ _ _ _ _ (so (c-fits2 .ensures) (c .before .if1 .taken)) in (p .0, p .1, p .2)
 
 fresh-requires : tie.Need-fresh-requires
 fresh-requires c κs = search needs

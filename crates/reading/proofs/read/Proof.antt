@@ -7,14 +7,17 @@ use borrow.Author.Needs.{needs}
 use Rattle.reading.proofs.read.Statement.{statement}
 use Rattle.reading.proofs.read.Tie as tie
 
-read-refusal-requires : tie.Need-read-refusal-requires
-read-refusal-requires c κs = search needs
+entry-requires : tie.Need-entry-requires
+entry-requires c κs = search needs
+
+read-refusal-after-requires : tie.Need-read-refusal-after-requires
+read-refusal-after-requires c κs = c .entry .ensures
 
 returns : tie.Need-returns
-returns c = read-refused _ _ _ _ (c .before .read-refusal .ensures) (c .if1 .taken)
+returns c = read-refused _ _ _ _ (c .before .read-refusal-after .ensures) (c .if1 .taken)
 
 sub-at : tie.Need-sub-at
-sub-at c = readable _ _ _ (so (c .before .read-refusal .ensures) (c .if1 .left)) .block .low
+sub-at c = readable _ _ _ (so (c .before .read-refusal-after .ensures) (c .if1 .left)) .block .low
 
 mul-value : tie.Need-mul-value
 mul-value c = search needs
@@ -26,39 +29,32 @@ mul-value-2 : tie.Need-mul-value-2
 mul-value-2 c = search needs
 
 shared-slice-read-value : tie.Need-shared-slice-read-value
-shared-slice-read-value c =
-    let c-read-refusal = c .before .before .read-refusal in
-    place-within (readable _ _ _ (so (c-read-refusal .ensures) (c .before .if1 .left)))
+shared-slice-read-value c = place-within (readable _ _ _ (so (c .before .before .read-refusal-after .ensures) (c .before .if1 .left)))
 
 shared-slice-read-bit : tie.Need-shared-slice-read-bit
-shared-slice-read-bit c =
-    let c-read-refusal = c .before .before .before .read-refusal in
-    let c-if1 = c .before .before .if1 in
-    index-within (readable _ _ _ (so (c-read-refusal .ensures) (c-if1 .left)))
+shared-slice-read-bit c = index-within (readable _ _ _ (so (c .before .before .before .read-refusal-after .ensures) (c .before .before .if1 .left)))
 
 bit-requires : tie.Need-bit-requires
-bit-requires c κs =
-    let c-read-refusal = c .before .before .before .read-refusal in
-    let c-if1 = c .before .before .if1 in
-    let d = readable _ _ _ (so (c-read-refusal .ensures) (c-if1 .left)) in omega arith
+bit-requires c κs = let d = readable _ _ _ (so (c .before .before .before .read-refusal-after .ensures) (c .before .before .if1 .left)) in omega arith
 
 returns-2 : tie.Need-returns-2
 returns-2 c =
-    let c-read-refusal = c .before .before .before .before .before .read-refusal in
+    let c-read-refusal-after = c .before .before .before .before .before .read-refusal-after in
     let c-if1 = c .before .before .before .before .if1 in
-    read-reference _ _ _ _ (c-read-refusal .ensures) (c-if1 .left) (so (c .before .bit .ensures) (c .if2 .taken))
+    read-reference _ _ _ _ (c-read-refusal-after .ensures) (c-if1 .left) (so (c .before .bit .ensures) (c .if2 .taken))
 
 returns-3 : tie.Need-returns-3
 returns-3 c =
-    let c-read-refusal = c .before .before .before .before .before .read-refusal in
+    let c-read-refusal-after = c .before .before .before .before .before .read-refusal-after in
     let c-if1 = c .before .before .before .before .if1 in
-    read-number _ _ _ _ (c-read-refusal .ensures) (c-if1 .left) (so (c .before .bit .ensures) (c .if2 .left))
+    read-number _ _ _ _ (c-read-refusal-after .ensures) (c-if1 .left) (so (c .before .bit .ensures) (c .if2 .left))
 
 pub read-spec : {M : Type 1} → statement M
 read-spec =
     tie.close
     (tie.spec
-    read-refusal-requires
+    entry-requires
+    read-refusal-after-requires
     returns
     sub-at
     mul-value

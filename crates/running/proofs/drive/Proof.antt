@@ -1,26 +1,37 @@
 -- `running::drive` meets its contract: the turns that are left. Assumes nothing.
-use borrow.Author.Needs.{needs}
 use native.Mathlib.Omega.{arith}
-use Prim.Native.Nat.{_≤_}
-use mathlib.Core.Path.{_≡_}
-use lib.ListN.{length}
+use borrow.Author.Needs.{needs}
 use Rattle.running.proofs.drive.Statement.{statement}
 use Rattle.running.proofs.drive.Tie as tie
 
 abbrev Inv-loop : tie.InvT-loop
-Inv-loop words₀ colours₀ bytes₀ line₀ out₀ input₀ s₀ turns₀ words colours bytes line out input s turns = (s .kept ≤ length line) × (length words ≡ length words₀) × (length colours ≡ length colours₀) × (length bytes ≡ length bytes₀) × (length line ≡ length line₀) × (length out ≡ length out₀) × (length input ≡ length input₀)
+Inv-loop words₀ colours₀ bytes₀ line₀ input₀ out₀ r₀ i₀ o₀ turns₀ words colours bytes line input out r i o turns =
+    Unit
 
 abbrev μ-loop : tie.MeasureT-loop
-μ-loop words₀ colours₀ bytes₀ line₀ out₀ input₀ s₀ turns₀ words colours bytes line out input s turns = turns
+μ-loop words₀ colours₀ bytes₀ line₀ input₀ out₀ r₀ i₀ o₀ turns₀ words colours bytes line input out r i o turns =
+    turns
 
 fresh-requires : tie.Need-fresh-requires Inv-loop μ-loop
 fresh-requires c κs = search needs
 
+start-requires : tie.Need-start-requires Inv-loop μ-loop
+start-requires c κs = search needs
+
+empty-requires : tie.Need-empty-requires Inv-loop μ-loop
+empty-requires c κs = search needs
+
 loop-holds : tie.Need-loop-holds Inv-loop μ-loop
 loop-holds c = search needs
 
-turn-requires : tie.Need-turn-requires Inv-loop μ-loop
-turn-requires c κs = search needs
+goes-on-requires : tie.Need-goes-on-requires Inv-loop μ-loop
+goes-on-requires c κs = search needs
+
+next-requires : tie.Need-next-requires Inv-loop μ-loop
+next-requires c κs = search needs
+
+do-line-requires : tie.Need-do-line-requires Inv-loop μ-loop
+do-line-requires c κs = search needs
 
 sub-turns : tie.Need-sub-turns Inv-loop μ-loop
 sub-turns c = search needs
@@ -31,26 +42,8 @@ loop-less c = search needs
 loop-again : tie.Need-loop-again Inv-loop μ-loop
 loop-again c = search needs
 
-end-requires : tie.Need-end-requires Inv-loop μ-loop
-end-requires c κs = search needs
-
-same-length : tie.Need-same-length Inv-loop μ-loop
-same-length c = search needs
-
-same-length-2 : tie.Need-same-length-2 Inv-loop μ-loop
-same-length-2 c = search needs
-
-same-length-3 : tie.Need-same-length-3 Inv-loop μ-loop
-same-length-3 c = search needs
-
-same-length-4 : tie.Need-same-length-4 Inv-loop μ-loop
-same-length-4 c = search needs
-
-same-length-5 : tie.Need-same-length-5 Inv-loop μ-loop
-same-length-5 c = search needs
-
-same-length-6 : tie.Need-same-length-6 Inv-loop μ-loop
-same-length-6 c = search needs
+flush-requires : tie.Need-flush-requires Inv-loop μ-loop
+flush-requires c κs = search needs
 
 returns : tie.Need-returns Inv-loop μ-loop
 returns c = search needs
@@ -62,16 +55,14 @@ drive-spec =
     Inv-loop
     μ-loop
     fresh-requires
+    start-requires
+    empty-requires
     loop-holds
-    turn-requires
+    goes-on-requires
+    next-requires
+    do-line-requires
     sub-turns
     loop-less
     loop-again
-    end-requires
-    same-length
-    same-length-2
-    same-length-3
-    same-length-4
-    same-length-5
-    same-length-6
+    flush-requires
     returns)

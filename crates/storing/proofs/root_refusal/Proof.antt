@@ -1,4 +1,5 @@
 -- `storing::root_refusal` meets its contract: the first test that refuses. Assumes nothing.
+use mathlib.Core.Path.{refl}
 use Rattle.blocks.proofs.Tests.{so}
 use Rattle.blocks.proofs.Entering.{entry-ready}
 use Rattle.blocks.proofs.Refusals.{stops, passes, target-within}
@@ -36,7 +37,7 @@ returns-3 c =
     let c-entry = c .before .before .before .before .entry in
     let c-if1 = c .before .before .before .if1 in
     let c-target-place = c .before .before .target-place in
-    passes (c-entry .ensures) (c-if1 .left) (passes (c-target-place .ensures) (c .before .if2 .left) (c .target-refusal .ensures _ _))
+    passes (c-entry .ensures) (c-if1 .left) (passes (c-target-place .ensures) (c .before .if2 .left) (c .target-refusal .ensures _ _ _ refl refl refl))
 
 pub root-refusal-spec : {M : Type 1} → statement M
 root-refusal-spec =

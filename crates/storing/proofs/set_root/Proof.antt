@@ -1,6 +1,6 @@
 -- `storing::set_root` meets its contract: refused, or the barrier and then the root written. Assumes nothing.
 use Rattle.blocks.proofs.Tests.{so}
-use Rattle.blocks.proofs.Storing.{root-refused, root-set, root-ready}
+use Rattle.blocks.proofs.Storing.{root-refused, root-set, root-ready, root-named}
 use borrow.Author.Needs.{needs}
 use Rattle.storing.proofs.set_root.Statement.{statement}
 use Rattle.storing.proofs.set_root.Tie as tie
@@ -28,7 +28,7 @@ returns c =
 barrier-requires : tie.Need-barrier-requires
 barrier-requires c κs =
     let c-root-refusal = c .before .before .root-refusal in
-    let d = root-ready _ _ (so (c-root-refusal .ensures) (c .before .if1 .left)) in (d .most, d .colours)
+    let z = so (c-root-refusal .ensures) (c .before .if1 .left) in (root-ready _ _ z .colours, root-named _ _ z)
 
 done-requires : tie.Need-done-requires
 done-requires c κs = search needs

@@ -6,8 +6,11 @@ use borrow.Author.Needs.{needs}
 use Rattle.storing.proofs.store_number.Statement.{statement}
 use Rattle.storing.proofs.store_number.Tie as tie
 
-read-refusal-requires : tie.Need-read-refusal-requires
-read-refusal-requires c κs = search needs
+entry-requires : tie.Need-entry-requires
+entry-requires c κs = search needs
+
+read-refusal-after-requires : tie.Need-read-refusal-after-requires
+read-refusal-after-requires c κs = c .before .before .before .entry .ensures
 
 refused-requires : tie.Need-refused-requires
 refused-requires c κs = search needs
@@ -22,15 +25,10 @@ same-length-3 : tie.Need-same-length-3
 same-length-3 c = search needs
 
 returns : tie.Need-returns
-returns c =
-    let c-read-refusal = c .before .before .read-refusal in
-    number-refused _ _ _ _ (c-read-refusal .ensures) (c .before .if1 .taken) (c .refused .ensures _ _ _)
+returns c = number-refused _ _ _ _ (c .before .before .read-refusal-after .ensures) (c .before .if1 .taken) (c .refused .ensures _ _ _)
 
 put-number-requires : tie.Need-put-number-requires
-put-number-requires c κs =
-    let c-read-refusal = c .before .before .before .read-refusal in
-    let c-if1 = c .before .before .if1 in
-    word-writable (readable _ _ _ (so (c-read-refusal .ensures) (c-if1 .left)))
+put-number-requires c κs = word-writable (readable _ _ _ (so (c .before .before .before .read-refusal-after .ensures) (c .before .before .if1 .left)))
 
 done-requires : tie.Need-done-requires
 done-requires c κs = search needs
@@ -46,16 +44,17 @@ same-length-6 c = search needs
 
 returns-2 : tie.Need-returns-2
 returns-2 c =
-    let c-read-refusal = c .before .before .before .before .before .before .before .before .before .read-refusal in
+    let c-read-refusal-after = c .before .before .before .before .before .before .before .before .before .read-refusal-after in
     let c-if1 = c .before .before .before .before .before .before .before .before .if1 in
     let c-put-number = c .before .before .before .before .before .put-number in
-    number-stored _ _ _ _ _ (c-read-refusal .ensures) (c-if1 .left) (c .done .ensures _ _ _) (c-put-number .ensures _ _)
+    number-stored _ _ _ _ _ (c-read-refusal-after .ensures) (c-if1 .left) (c .done .ensures _ _ _) (c-put-number .ensures _ _)
 
 pub store-number-spec : {M : Type 1} → statement M
 store-number-spec =
     tie.close
     (tie.spec
-    read-refusal-requires
+    entry-requires
+    read-refusal-after-requires
     refused-requires
     same-length
     same-length-2

@@ -1,6 +1,6 @@
 -- `storing::store_reference` meets its contract: refused, or the barrier and then the word and its bit written. Assumes nothing.
 use Rattle.blocks.proofs.Tests.{so}
-use Rattle.blocks.proofs.Storing.{reference-refused, reference-stored, storable, word-writable}
+use Rattle.blocks.proofs.Storing.{reference-refused, reference-stored, storable, store-named, word-writable}
 use borrow.Author.Needs.{needs}
 use Rattle.storing.proofs.store_reference.Statement.{statement}
 use Rattle.storing.proofs.store_reference.Tie as tie
@@ -28,7 +28,7 @@ returns c =
 barrier-requires : tie.Need-barrier-requires
 barrier-requires c κs =
     let c-store-refusal = c .before .before .store-refusal in
-    let d = storable _ _ _ _ (so (c-store-refusal .ensures) (c .before .if1 .left)) .ready in (d .most, d .colours)
+    let z = so (c-store-refusal .ensures) (c .before .if1 .left) in (storable _ _ _ _ z .ready .colours, store-named _ _ _ _ z)
 
 put-reference-requires : tie.Need-put-reference-requires
 put-reference-requires c κs =

@@ -1,4 +1,5 @@
 -- `storing::store_refusal` meets its contract: the first test that refuses. Assumes nothing.
+use mathlib.Core.Path.{refl}
 use Rattle.blocks.proofs.Tests.{so}
 use Rattle.blocks.proofs.Entering.{entry-ready}
 use Rattle.blocks.proofs.Refusals.{stops, passes, word-zero, target-within}
@@ -57,7 +58,7 @@ returns-4 c =
     let c-if2 = c .before .before .before .before .if2 in
     let c-target-place = c .before .before .before .target-place in
     let c-if3 = c .before .before .if3 in
-    passes (c-entry .ensures) (c-if1 .left) (passes (c-word-refusal .ensures) (c-if2 .left) (passes (c-target-place .ensures) (c-if3 .left) (stops _ (c .before .holder-refusal .ensures _ _) (c .if4 .taken))))
+    passes (c-entry .ensures) (c-if1 .left) (passes (c-word-refusal .ensures) (c-if2 .left) (passes (c-target-place .ensures) (c-if3 .left) (stops _ (c .before .holder-refusal .ensures _ _ _ refl refl refl) (c .if4 .taken))))
 
 target-refusal-requires : tie.Need-target-refusal-requires
 target-refusal-requires c κs =
@@ -77,7 +78,7 @@ returns-5 c =
     let c-target-place = c .before .before .before .before .target-place in
     let c-if3 = c .before .before .before .if3 in
     let c-holder-refusal = c .before .before .holder-refusal in
-    passes (c-entry .ensures) (c-if1 .left) (passes (c-word-refusal .ensures) (c-if2 .left) (passes (c-target-place .ensures) (c-if3 .left) (passes (c-holder-refusal .ensures _ _) (c .before .if4 .left) (c .target-refusal .ensures _ _))))
+    passes (c-entry .ensures) (c-if1 .left) (passes (c-word-refusal .ensures) (c-if2 .left) (passes (c-target-place .ensures) (c-if3 .left) (passes (c-holder-refusal .ensures _ _ _ refl refl refl) (c .before .if4 .left) (c .target-refusal .ensures _ _ _ refl refl refl))))
 
 pub store-refusal-spec : {M : Type 1} → statement M
 store-refusal-spec =

@@ -1,0 +1,375 @@
+/* The calls that are counted, each on a heap laid out for it.
+
+       driver lines|steps calls      each measure, on heaps of 1,024, 4,096 and 16,384 blocks
+       driver lines|steps long N     N allocations while a list of 300 rows lives and garbage is made at every step
+
+   A line of output is a call: its name, M, the measure's name, the units asked for where the measure is of units (else 0), and
+   with `steps` the call's instructions. With `lines` another program counts them. `calls` prints a line for every call made,
+   `long` for every Allocate; a call that only prepares has `-` for its measure. Every heap laid out here is one that the audit
+   accepts. */
+#include "machine.h"
+#include "steps.h"
+#include <stdio.h>
+#include <stdlib.h>
+#include <string.h>
+
+enum { IDLE, MARKING, SWEEPING };
+/* Colour words; LAST is that of the last grey block. */
+static const uint32_t WHITE = 0, LAST = 1, BLACK = 4294967295u, FREE = 4294967294u;
+
+/* ---- the heap, and a call on it ---- */
+
+enum { MOST = 16384 };
+static struct MACHINE(regs) r;
+static uint32_t m, words[8 * MOST], colours[MOST];
+static uint8_t bytes[MOST];
+#define LENT words, 8 * (size_t)m, colours, m, bytes, m
+
+/* The call's name; the measure's name, NULL where a call only prepares; its units; whether this program counts. */
+static const char *call_name, *name;
+static uint32_t units;
+static int by_steps;
+
+static void before(const char *call, uintptr_t function)
+{
+    call_name = call;
+    if (by_steps && name)
+        steps_begin(function);
+}
+
+/* Ends the program where a call was refused: no measure is of a refusal. */
+static void after(uint32_t refusal)
+{
+    unsigned long long n = by_steps && name ? steps_end() : 0;
+    if (refusal != 0) {
+        fprintf(stderr, "driver: %s for %s, M = %u: refused by %u\n", call_name, name ? name : "-", (unsigned)m, (unsigned)refusal);
+        exit(1);
+    }
+    printf("%s %u %s %u", call_name, (unsigned)m, name ? name : "-", (unsigned)units);
+    printf(by_steps ? " %llu\n" : "\n", n);
+}
+
+#define CALL(call, ...) (before(#call, (uintptr_t)MACHINE(call)), MACHINE(call)(__VA_ARGS__))
+
+/* The calls from here on are of this measure. */
+static void measure(const char *of, uint32_t asked)
+{
+    name = of;
+    units = asked;
+}
+
+static void prepare(void)
+{
+    measure(NULL, 0);
+}
+
+static uint32_t allocate(uint32_t b, uint32_t w)
+{
+    struct MACHINE(answer) a = CALL(allocate, &r, LENT, b, w);
+    after(a.refusal);
+    return a.value;
+}
+
+static void work(uint32_t n)
+{
+    after(CALL(work, &r, LENT, n).refusal);
+}
+
+static void audit(void)
+{
+    struct MACHINE(answer) a = CALL(audit, MACHINE_SEEN(r), LENT);
+    after(a.value == 1 ? 0 : 10);
+}
+
+/* ---- laying out a heap ---- */
+
+static void fresh(uint32_t u)
+{
+    prepare();
+    after(CALL(format, &r, LENT, m, u).refusal);
+}
+
+/* The word becomes a reference to t. */
+static void refer(uint32_t b, uint32_t w, uint32_t t)
+{
+    words[8 * (b - 2) + w] = t;
+    bytes[b - 2] |= (uint8_t)(1u << w);
+}
+
+/* Every block is allocated, of one colour, and holds eight zeroes. */
+static void all(uint32_t colour)
+{
+    fresh(1);
+    memset(words, 0, 32 * (size_t)m);
+    for (uint32_t i = 0; i < m; i++)
+        colours[i] = colour;
+    r.free = r.count = 0;
+}
+
+/* Blocks 2, the root, and 3 are allocated and white, and the others are free. */
+static void two(void)
+{
+    fresh(1);
+    words[0] = words[8] = 0;
+    colours[0] = colours[1] = WHITE;
+    r.free = 4;
+    r.count = m - 2;
+    r.root = 2;
+}
+
+/* The same while marking: the root is black. */
+static void two_marking(void)
+{
+    two();
+    colours[0] = BLACK;
+    r.phase = MARKING;
+}
+
+/* ---- units: each measure is n units of one kind in one Work ---- */
+
+/* n grey blocks, each with k references to the last block. That is black, or grey and the end of the list. */
+static void marking(const char *of, uint32_t n, uint32_t k, uint32_t colour)
+{
+    all(WHITE);
+    r.phase = MARKING;
+    r.grey = r.root = 2;
+    for (uint32_t i = 0; i < n; i++)
+        colours[i] = i + 3;
+    colours[n - 1] = colour == BLACK ? 1 : m + 1;
+    colours[m - 1] = colour;
+    for (uint32_t i = 0; i < n * k; i++)
+        refer(2 + i / k, i % k, m + 1);
+    audit();
+    measure(of, n);
+    work(n);
+}
+
+/* A grey block with k references: the first to a grey block, then so many to white blocks. The last of these is marked next, and
+   has k such references too, and so on n times. */
+static void chain(uint32_t n, uint32_t k, uint32_t whites)
+{
+    uint32_t b = 2, white = 3;
+    all(WHITE);
+    r.phase = MARKING;
+    r.grey = r.root = 2;
+    colours[0] = m;
+    colours[m - 2] = LAST;
+    for (uint32_t i = 0; i < n * k; i++) {
+        refer(b, i % k, i % k < k - whites ? m : white++);
+        if (i % k == k - 1)
+            b = white - 1;
+    }
+}
+
+/* Of k references, all to white blocks. */
+static void marking_white(const char *of, uint32_t n, uint32_t k)
+{
+    chain(n, k, k);
+    audit();
+    measure(of, n);
+    work(n);
+}
+
+/* The blocks from 2 on, all of one colour. */
+static void sweeping(const char *of, uint32_t n, uint32_t colour)
+{
+    if (colour == FREE)
+        fresh(1);
+    else
+        all(colour);
+    r.phase = SWEEPING;
+    r.position = 2;
+    audit();
+    measure(of, n);
+    work(n);
+}
+
+/* The first unit of a cycle, with a root. */
+static void starting(uint32_t n)
+{
+    two();
+    audit();
+    measure("starting", n);
+    work(n);
+}
+
+/* The unit that finds the grey list empty. */
+static void turning(uint32_t n)
+{
+    two_marking();
+    audit();
+    measure("turning", n);
+    work(n);
+}
+
+/* Each kind of unit, n of them. */
+static void unit_measures(uint32_t n)
+{
+    marking("marking-0", n, 0, BLACK);
+    marking("marking-1", n, 1, BLACK);
+    marking("marking-2", n, 2, BLACK);
+    marking("marking-8", n, 8, BLACK);
+    marking("marking-grey-8", n, 8, LAST);
+    marking_white("marking-white-1", n, 1);
+    marking_white("marking-white-2", n, 2);
+    marking_white("marking-white-8", n, 8);
+    sweeping("sweeping-free", n, FREE);
+    sweeping("sweeping-black", n, BLACK);
+    sweeping("sweeping-white", n, WHITE);
+}
+
+/* ---- calls of constant cost ---- */
+
+static void idle_measures(void)
+{
+    two();
+    refer(2, 1, 3);
+    audit();
+    measure("read", 0);
+    after(CALL(read, MACHINE_SEEN(r), LENT, 2, 1).refusal);
+    measure("look", 0);
+    after(CALL(look, MACHINE_SEEN(r), LENT, 2).refusal);
+    measure("store-number", 0);
+    after(CALL(store_number, MACHINE_SEEN(r), LENT, 2, 7, 5).refusal);
+    measure("store-reference", 0);
+    after(CALL(store_reference, &r, LENT, 2, 2, 3).refusal);
+    measure("set-root", 0);
+    after(CALL(set_root, &r, LENT, 3).refusal);
+    measure("work-0", 0);
+    work(0);
+}
+
+/* The same calls with a white target while marking, which is greyed. */
+static void barrier_measures(void)
+{
+    two_marking();
+    audit();
+    measure("store-reference-white", 0);
+    after(CALL(store_reference, &r, LENT, 2, 1, 3).refusal);
+    two_marking();
+    measure("set-root-white", 0);
+    after(CALL(set_root, &r, LENT, 3).refusal);
+}
+
+/* ---- Allocate ---- */
+
+/* Allocates at words 1 to 7 of block 2 in turn until so many cycles were started. What the word held becomes garbage. */
+static void until_cycle(uint32_t cycle)
+{
+    for (uint32_t i = 0; r.cycle < cycle; i++)
+        allocate(2, 1 + i % 7);
+}
+
+/* One whole cycle, after two. */
+static void steady(const char *of, uint32_t u)
+{
+    fresh(u);
+    allocate(0, 0);
+    until_cycle(3);
+    measure(of, 0);
+    until_cycle(4);
+    prepare();
+    audit();
+}
+
+/* Ten units that each mark a block with eight references, so many of them to white blocks and the others to a grey one. */
+static void dear(uint32_t whites)
+{
+    chain(10, 8, whites);
+    r.pace = 10;
+    colours[m - 1] = FREE;
+    r.free = m + 1;
+    r.count = 1;
+    audit();
+    measure("dear", 0);
+    allocate(2, 0);
+}
+
+/* ---- calls of linear cost ---- */
+
+static void linear_measures(void)
+{
+    measure("format", 0);
+    after(CALL(format, &r, LENT, m, 1).refusal);
+    measure("audit-free", 0);
+    audit();
+    all(WHITE);
+    r.root = 2;
+    for (uint32_t i = 0; i < 8 * m; i++)
+        refer(2 + i / 8, i % 8, 2 + i % m);
+    measure("audit-8", 0);
+    audit();
+}
+
+static void calls(uint32_t size)
+{
+    m = size;
+    unit_measures(50);
+    unit_measures(100);
+    starting(0);
+    starting(1);
+    turning(0);
+    turning(1);
+    idle_measures();
+    barrier_measures();
+    steady("allocate-4", 4);
+    steady("allocate-10", 10);
+    for (uint32_t whites = 1; whites <= 8; whites++)
+        dear(whites);
+    linear_measures();
+}
+
+/* ---- the long run ---- */
+
+/* No line is printed for these. */
+static void link(uint32_t b, uint32_t w, uint32_t t)
+{
+    if (MACHINE(store_reference)(&r, LENT, b, w, t).refusal != 0)
+        exit(1);
+}
+
+/* Block 2 is the root. Its word 0 names a list of so many rows, each with its next row in word 0. */
+static void build_list(uint32_t rows)
+{
+    allocate(0, 0);
+    for (uint32_t i = 0; i < rows; i++) {
+        uint32_t row = allocate(2, 1);
+        link(row, 0, words[0]);
+        link(2, 0, row);
+    }
+}
+
+/* A step of it: a block that names the list, in the place of one that becomes garbage. */
+static void step(uint32_t w)
+{
+    link(allocate(2, w), 0, words[0]);
+}
+
+static void long_run(uint32_t n)
+{
+    m = 1024;
+    if (MACHINE(format)(&r, LENT, m, 10).refusal != 0)
+        exit(1);
+    build_list(300);
+    for (uint32_t i = 0; i < 14; i++)
+        allocate(2, 1 + i % 7);
+    measure("long", 0);
+    for (uint32_t i = 0; i < n; i++)
+        step(1 + i % 7);
+}
+
+int main(int argc, char **argv)
+{
+    static const uint32_t sizes[] = {1024, 4096, 16384};
+    if (argc < 3) {
+        fprintf(stderr, "usage: driver lines|steps calls|long [N]\n");
+        return 2;
+    }
+    by_steps = strcmp(argv[1], "steps") == 0;
+    if (strcmp(argv[2], "long") == 0)
+        long_run(argc > 3 ? (uint32_t)strtoul(argv[3], NULL, 10) : 1000);
+    else
+        for (size_t i = 0; i < sizeof sizes / sizeof *sizes; i++)
+            calls(sizes[i]);
+    return fflush(stdout) != 0;
+}

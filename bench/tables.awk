@@ -1,0 +1,100 @@
+# The tables of docs/BENCHMARKS.md from the lines
+#     MACHINE CALL M MEASURE UNITS COUNT
+# MACHINE is proved or plain. A measure with two numbers of units gives what one unit adds; any other the mean of its calls.
+
+function key(machine, measure, size) { return machine " " measure " " size }
+
+$4 != "-" {
+    k = key($1, $4, $3)
+    if (!(k in calls)) { units[k] = $5; first[k] = $6 }
+    else if ($5 != units[k]) slope[k] = ($6 - first[k]) / ($5 - units[k])
+    calls[k]++
+    sum[k] += $6
+    if ($6 > largest[k]) largest[k] = $6
+}
+
+# A number: whole, or with one digit behind the point; whole from 1,000 on, with commas.
+function shown(x,    s, n) {
+    if (x == "") return "–"
+    if (x < 1000) return x == int(x) ? sprintf("%d", x) : sprintf("%.1f", x)
+    s = sprintf("%.0f", x)
+    for (n = length(s) - 3; n > 0; n -= 3) s = substr(s, 1, n) "," substr(s, n + 1)
+    return s
+}
+
+function value(machine, measure, size,    k) {
+    k = key(machine, measure, size)
+    if (!(k in calls)) return ""
+    return k in slope ? slope[k] : sum[k] / calls[k]
+}
+
+# What a block adds to a call of linear cost.
+function per_block(machine, measure) {
+    return (value(machine, measure, 4096) - value(machine, measure, 1024)) / 3072
+}
+
+function row(text, measure, mark, tuned) {
+    printf "| %s | %s | %s | %s | %s |\n", text, shown(value("proved", measure, 1024)), shown(value("plain", measure, 1024)), shown(mark), shown(tuned)
+    texts[++rows] = text; measures[rows] = measure
+}
+
+function block_row(text, measure, mark) {
+    printf "| %s, each block | %s | %s | %s | – |\n", text, shown(per_block("proved", measure)), shown(per_block("plain", measure)), shown(mark)
+    linear_texts[++linear] = text; linear_measures[linear] = measure
+}
+
+function size_row(text, measure) {
+    printf "| %s | %s | %s | %s |\n", text, shown(value("proved", measure, 1024)), shown(value("proved", measure, 4096)), shown(value("proved", measure, 16384))
+}
+
+# In microseconds, at 3 GHz.
+function time(n) { return sprintf("%.2f to %.2f", n / 9000, n / 6000) }
+
+function worst_row(text, machine,    k) {
+    k = key(machine, "long", 1024)
+    printf "| %s | %s | %s | %s | %s |\n", text, shown(sum[k] / calls[k]), shown(largest[k]), shown(largest[key(machine, "dear", 1024)]), time(largest[key(machine, "dear", 1024)])
+}
+
+END {
+    print "\n### Each unit and each call\n"
+    print "| Instructions | Proved | Plain C | Mark to reach | Hand-tuned C |"
+    print "|---|---:|---:|---:|---:|"
+    row("Marking, no references", "marking-0", 24, 17)
+    row("Marking, 1 reference to a black block", "marking-1", 54, 40)
+    row("Marking, 2 references to a black block", "marking-2", 74, 56)
+    row("Marking, 8 references to a black block", "marking-8", 194, 152)
+    row("Marking, 1 reference to a white block", "marking-white-1", 63)
+    row("Marking, 2 references to white blocks", "marking-white-2", 95)
+    row("Marking, 8 references to white blocks", "marking-white-8", 254)
+    row("Marking, 8 references to a grey block", "marking-grey-8")
+    row("Sweeping a free block", "sweeping-free", 21, 7)
+    row("Sweeping a black block", "sweeping-black", 28, 13)
+    row("Sweeping a white block, which is freed", "sweeping-white", 45, 21)
+    row("Starting a cycle", "starting")
+    row("Turning to the sweep", "turning")
+    row("Read", "read", 90)
+    row("Look", "look", 73)
+    row("Store number", "store-number", 97)
+    row("Store reference, idle", "store-reference", 133)
+    row("Store reference, marking, a white target", "store-reference-white", 136)
+    row("Set root, idle", "set-root", 86)
+    row("Set root, marking, a white target", "set-root-white", 95)
+    row("Work of no units", "work-0", 102)
+    row("Allocate at U = 4, mean of a whole cycle", "allocate-4", 369)
+    row("Allocate at U = 10, mean of a whole cycle", "allocate-10", 554, 424)
+    block_row("Audit, a free heap", "audit-free", 33)
+    block_row("Audit, eight references in every block", "audit-8")
+    block_row("Format", "format", 5)
+
+    print "\n### The worst Allocate, U = 10, M = 1,024\n"
+    printf "| Instructions | Mean of %s | Largest of %s | The dearest call | Estimate of it, microseconds |\n", shown(calls[key("proved", "long", 1024)]), shown(calls[key("proved", "long", 1024)])
+    print "|---|---:|---:|---:|---:|"
+    worst_row("Proved", "proved")
+    worst_row("Plain C", "plain")
+
+    print "\n### With the size of the heap, proved\n"
+    print "| Instructions | M = 1,024 | M = 4,096 | M = 16,384 |"
+    print "|---|---:|---:|---:|"
+    for (i = 1; i <= rows; i++) size_row(texts[i], measures[i])
+    for (i = 1; i <= linear; i++) size_row(linear_texts[i] ", the whole call", linear_measures[i])
+}

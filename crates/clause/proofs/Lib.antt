@@ -1,0 +1,5 @@
+-- That what is exported lasts, what stopping means, and instances.
+pub mod Following
+pub mod Lasting
+pub mod Stopping
+pub mod Instances

@@ -1,0 +1,3 @@
+-- Laws of the collector's loops.
+pub mod Picking
+pub mod Going

@@ -1,0 +1,2 @@
+-- What the collector's loops say of each other.
+pub mod Going

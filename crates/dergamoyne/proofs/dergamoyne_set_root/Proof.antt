@@ -1,0 +1,14 @@
+-- `dergamoyne::dergamoyne_set_root` meets its contract: the law of the outer calls, over `storing::set_root`. Assumes nothing.
+use Rattle.blocks.specs.Store.{setRoot}
+use Rattle.storing.proofs.set_root.Symbol as core
+use Rattle.storing.proofs.set_root.Met as core-thm
+use Rattle.dergamoyne.proofs.Outer.{lends}
+use Rattle.dergamoyne.proofs.dergamoyne_set_root.Key.{name}
+use Rattle.dergamoyne.proofs.dergamoyne_set_root.Statement.{statement}
+use Rattle.dergamoyne.proofs.dergamoyne_set_root.Code as code
+
+pub dergamoyne-set-root-spec : {M : Type 1} → statement M
+unfolding code.routine
+dergamoyne-set-root-spec 𝓤 H 𝓜 𝓖 𝓡 =
+    lends 1 (λ m. setRoot (m .0)) core.name 𝓤 H 𝓜 𝓖 𝓡 code.env name (code.unfolded 𝓤 H 𝓜 𝓡)
+    core.routine code.calls-storing·set-root (core-thm.met 𝓤 H 𝓜 𝓖 𝓡)

@@ -1,0 +1,195 @@
+// The outer calls, for a host in C. Five change the registers: the host lends its one register record, and the call changes
+// it in place, over a core that takes the record by value and gives it back. Five change no register and take it by value.
+use blocks::Answer;
+use blocks::ReadAnswer;
+use blocks::Regs;
+use exporting::ExportAnswer;
+ghost use mathlib.Core.Path.{_≡_};
+ghost use mathlib.Core.Logic.{_↔_};
+ghost use Rattle.blocks.specs.WellFormed.{WellFormed};
+ghost use Rattle.blocks.specs.Heap.{heap};
+ghost use Rattle.blocks.specs.Answers.{given};
+ghost use Rattle.blocks.specs.Format.{format};
+ghost use Rattle.blocks.specs.Read.{readRefusal, read, lookAt};
+ghost use Rattle.blocks.specs.Store.{storeNumber, storeReference, setRoot};
+ghost use Rattle.blocks.specs.Allocate.{allocate};
+ghost use Rattle.blocks.specs.Work.{work};
+ghost use Rattle.blocks.specs.Audit.{audit};
+ghost use Rattle.exporting.specs.Numbers.{exportNumbers};
+
+// What Look answers a host: the refusal of Read of word 0, or 0, and the index of the block's first word in the word buffer
+// (0 on a refusal).
+#[repr(C)]
+pub struct LookAnswer {
+    pub refusal: u32,
+    pub at: u32,
+}
+
+// Format (M, U), or refusal 1.
+#[no_mangle]
+pub extern "C" fn dergamoyne_format(
+    regs: &mut Regs,
+    words: &mut [u32],
+    colours: &mut [u32],
+    bytes: &mut [u8],
+    m: u32,
+    u: u32,
+) -> Answer
+    ensures { λ a. ⌜ given (record { regs = now (regs .exit); answer = a }) (now (words .exit)) (now (colours .exit)) (now (bytes .exit)) ≡ format m u (heap (now (regs .entry)) (now (words .entry)) (now (colours .entry)) (now (bytes .entry))) ⌝ }
+{
+    let formatted = formatting::format(*regs, words, colours, bytes, m, u);
+    *regs = formatted.regs;
+    formatted.answer
+}
+
+// Read: word w of the block b, and whether it is a reference.
+#[no_mangle]
+pub extern "C" fn dergamoyne_read(
+    regs: Regs,
+    words: &[u32],
+    colours: &[u32],
+    bytes: &[u8],
+    b: u32,
+    w: u32,
+) -> ReadAnswer
+    ensures { λ x. ⌜ (record { answer = x; heap = heap regs (now (words .exit)) (now (colours .exit)) (now (bytes .exit)) }) ≡ read b w (heap regs (now (words .entry)) (now (colours .entry)) (now (bytes .entry))) ⌝ }
+{
+    reading::read(regs, words, colours, bytes, b, w)
+}
+
+// Look: where in the word buffer the eight words of the block b begin, or the refusal of Read of word 0.
+#[no_mangle]
+pub extern "C" fn dergamoyne_look(
+    regs: Regs,
+    words: &[u32],
+    colours: &[u32],
+    bytes: &[u8],
+    b: u32,
+) -> LookAnswer
+    ensures { λ x. ⌜ (x .refusal ≡ readRefusal b 0 (heap regs (now (words .entry)) (now (colours .entry)) (now (bytes .entry)))) × (x .at ≡ lookAt b (heap regs (now (words .entry)) (now (colours .entry)) (now (bytes .entry)))) ⌝ }
+{
+    let e = checks::entry(regs, words, colours, bytes);
+    let n = checks::read_refusal_after(e, regs, words, colours, bytes, b, 0);
+    if n != 0 {
+        return LookAnswer { refusal: n, at: 0 };
+    }
+    LookAnswer {
+        refusal: 0,
+        at: 8 * (b - 2),
+    }
+}
+
+// Store number: word w of the block b becomes the number v. The registers stay.
+#[no_mangle]
+pub extern "C" fn dergamoyne_store_number(
+    regs: Regs,
+    words: &mut [u32],
+    colours: &mut [u32],
+    bytes: &mut [u8],
+    b: u32,
+    w: u32,
+    v: u32,
+) -> Answer
+    ensures { λ a. ⌜ given (record { regs = regs; answer = a }) (now (words .exit)) (now (colours .exit)) (now (bytes .exit)) ≡ storeNumber b w v (heap regs (now (words .entry)) (now (colours .entry)) (now (bytes .entry))) ⌝ }
+{
+    let o = storing::store_number(regs, words, colours, bytes, b, w, v);
+    o.answer
+}
+
+// Store reference: word w of the block b becomes a reference to t, or the reference 0.
+#[no_mangle]
+pub extern "C" fn dergamoyne_store_reference(
+    regs: &mut Regs,
+    words: &mut [u32],
+    colours: &mut [u32],
+    bytes: &mut [u8],
+    b: u32,
+    w: u32,
+    t: u32,
+) -> Answer
+    ensures { λ a. ⌜ given (record { regs = now (regs .exit); answer = a }) (now (words .exit)) (now (colours .exit)) (now (bytes .exit)) ≡ storeReference b w t (heap (now (regs .entry)) (now (words .entry)) (now (colours .entry)) (now (bytes .entry))) ⌝ }
+{
+    let stored = storing::store_reference(*regs, words, colours, bytes, b, w, t);
+    *regs = stored.regs;
+    stored.answer
+}
+
+// Set root: the root becomes t, or none.
+#[no_mangle]
+pub extern "C" fn dergamoyne_set_root(
+    regs: &mut Regs,
+    words: &mut [u32],
+    colours: &mut [u32],
+    bytes: &mut [u8],
+    t: u32,
+) -> Answer
+    ensures { λ a. ⌜ given (record { regs = now (regs .exit); answer = a }) (now (words .exit)) (now (colours .exit)) (now (bytes .exit)) ≡ setRoot t (heap (now (regs .entry)) (now (words .entry)) (now (colours .entry)) (now (bytes .entry))) ⌝ }
+{
+    let set = storing::set_root(*regs, words, colours, bytes, t);
+    *regs = set.regs;
+    set.answer
+}
+
+// Allocate: a new block for word w of the block b, or with 0, 0 for the root. Its value is the new block.
+#[no_mangle]
+pub extern "C" fn dergamoyne_allocate(
+    regs: &mut Regs,
+    words: &mut [u32],
+    colours: &mut [u32],
+    bytes: &mut [u8],
+    b: u32,
+    w: u32,
+) -> Answer
+    ensures { λ a. ⌜ given (record { regs = now (regs .exit); answer = a }) (now (words .exit)) (now (colours .exit)) (now (bytes .exit)) ≡ allocate b w (heap (now (regs .entry)) (now (words .entry)) (now (colours .entry)) (now (bytes .entry))) ⌝ }
+{
+    let taken = allocating::allocate(*regs, words, colours, bytes, b, w);
+    *regs = taken.regs;
+    taken.answer
+}
+
+// Work: n units, n at most 65,535.
+#[no_mangle]
+pub extern "C" fn dergamoyne_work(
+    regs: &mut Regs,
+    words: &mut [u32],
+    colours: &mut [u32],
+    bytes: &mut [u8],
+    n: u32,
+) -> Answer
+    ensures { λ a. ⌜ given (record { regs = now (regs .exit); answer = a }) (now (words .exit)) (now (colours .exit)) (now (bytes .exit)) ≡ work n (heap (now (regs .entry)) (now (words .entry)) (now (colours .entry)) (now (bytes .entry))) ⌝ }
+{
+    let worked = working::work(*regs, words, colours, bytes, n);
+    *regs = worked.regs;
+    worked.answer
+}
+
+// Audit: 1 for a well-formed heap, else 0. It never refuses and changes nothing.
+#[no_mangle]
+pub extern "C" fn dergamoyne_audit(
+    regs: Regs,
+    words: &[u32],
+    colours: &[u32],
+    bytes: &[u8],
+) -> Answer
+    ensures { λ x. ⌜ (record { answer = x; heap = heap regs (now (words .exit)) (now (colours .exit)) (now (bytes .exit)) }) ≡ audit (heap regs (now (words .entry)) (now (colours .entry)) (now (bytes .entry))) ⌝ }
+    ensures meaning { λ x. ⌜ ((x .value ≡ 1) ↔ WellFormed (heap regs (now (words .entry)) (now (colours .entry)) (now (bytes .entry)))) ⌝ }
+{
+    auditing::audit(regs, words, colours, bytes)
+}
+
+// Export: the rows of the list that starts at the block start, where 0 is the empty list, and goes on by the reference in word
+// link, to the buffer out. Complete with the number of rows; or not, with the rows written before it stopped, and the reason.
+#[no_mangle]
+pub extern "C" fn dergamoyne_export(
+    regs: Regs,
+    words: &[u32],
+    colours: &[u32],
+    bytes: &[u8],
+    out: &mut [u32],
+    start: u32,
+    link: u32,
+) -> ExportAnswer
+    ensures { λ a. ⌜ (record { answer = a; out = now (out .exit) }) ≡ exportNumbers start link (heap regs (now (words .entry)) (now (colours .entry)) (now (bytes .entry))) (now (out .entry)) ⌝ }
+{
+    exporting::export_numbers(regs, words, colours, bytes, out, start, link)
+}

@@ -1,0 +1,2 @@
+-- What is proved of a line's doing alone.
+pub mod Turns

@@ -1,0 +1,2 @@
+-- What a program does with a line.
+pub mod Doing

@@ -1,0 +1,247 @@
+/* Dergamoyne: a heap of equal blocks with an incremental mark and sweep collector, for programs in C (C99 on) and C++.
+   MIT licence, see LICENSE.
+
+       enum { M = 1000 };
+       static uint32_t words[8 * M], colours[M];
+       static uint8_t bytes[M];
+       static struct dergamoyne_regs regs;
+       #define LENT words, 8 * M, colours, M, bytes, M
+
+       dergamoyne_format(&regs, LENT, M, 10);
+       uint32_t first = dergamoyne_allocate(&regs, LENT, 0, 0).value;        a block, held by the root
+       uint32_t second = dergamoyne_allocate(&regs, LENT, first, 0).value;   a block, held by word 0 of the first
+       dergamoyne_store_number(regs, LENT, second, 1, 42);
+       uint32_t n = dergamoyne_read(regs, LENT, second, 1).value;            42
+
+   A whole program that tests every answer is examples/c/list.c; examples/c/run builds and runs it.
+
+
+   THE HEAP
+
+   It has M blocks, 1 to 16,384, whose numbers are 2 to M + 1. A block has eight words of 32 bits, 0 to 7. Each word holds a
+   number or a reference; a reference is the number of a block, or 0 for none. One block may be the root. The collector keeps
+   every block that can be reached from the root by references, and frees the others. It does so in small steps of bounded
+   cost, units: U of them in each Allocate (U is the pace, 0 to 65,535; with 0 the call chooses more the fewer blocks are
+   free), and as many as you ask for in Work. docs/SIZING.md tells how to choose M and U.
+
+   A number of a block that only a variable of yours holds does not keep that block: store a reference to it. A block that
+   can't be reached any more is freed sometime later. From when its end is settled (it is then called doomed) until it is
+   allocated again, every call that names it is refused; after that its number means the new block.
+
+
+   WHAT YOU LEND
+
+   The memory is yours: one register record, and three buffers that have exactly these lengths.
+
+       words     8M of 32 bits     32 bytes a block     the blocks' words: those of block b begin at words[8 * (b - 2)]
+       colours    M of 32 bits      4 bytes a block     what the collector knows of each block
+       bytes      M of  8 bits      1 byte  a block     which words are references: bit w of bytes[b - 2] is for word w
+
+   That is 37M bytes and the record's 36: 37,036 bytes for 1,000 blocks, 606,244 for 16,384. A call uses them while it runs
+   and keeps no pointer: between calls a heap may be moved, copied, or saved and loaded again.
+
+   Write to them through the calls alone. Whatever they contain, no call reads or writes outside of them, and each gives a
+   definite answer. Of a heap that something else has written to no more than that is promised: a call that meets damage
+   refuses by 2 or 8, and Audit tells whether the heap is still well-formed.
+
+
+   POINTERS AND LENGTHS
+
+   A length counts elements, not bytes. Every call tests the three lengths against M, and refuses by 1 where one doesn't fit.
+   A buffer of length 0 never fits, since M is at least 1: it is refused, and nothing is read or written through its pointer.
+
+   What a call can't test is yours to see to: that no pointer is null (nor one of length 0), that each is aligned for its
+   type, that the memory behind it is as long as you say, and that no two of the record, the three buffers and Export's
+   buffer overlap. Where one of these fails the behaviour is undefined.
+
+
+   THREADS AND SIGNALS
+
+   The library has no state of its own, takes no memory, and calls nothing of the system. Two calls on different heaps may
+   run at the same time. One heap (its record and its three buffers) must not be in use by two calls at once, whichever calls
+   they are: guard it by a lock of yours, and don't call from a signal handler that may break into a call on the same heap.
+
+
+   LATER VERSIONS
+
+   Registers will be added to the record. So: let it be zero at the start, write sizeof and never 36, name its fields and
+   don't rely on their order, and compile again with the header of the version that you link. To use the fields is seldom
+   needed: read them as you like, and leave the writing to the calls.
+
+
+   WHAT IS PROVED
+
+   Each function of the library is proved to give exactly the answer, the record and the buffers that a short definition says,
+   for all numbers and all contents of what it is lent (crates/dergamoyne/src/lib.rt has the statements). It is proved that on
+   a heap made by Format and changed by the calls alone nothing that can be reached is lost, and no call answers 8.
+
+   Not proved: this header, the way in which C passes arguments and results, and the compilers. They are tested: tests/c makes
+   more than 60,000 calls through this header, damaged heaps and wrong lengths among them, and compares every answer with a
+   second model's, and of 24,000 the whole heap afterwards. */
+#ifndef DERGAMOYNE_H
+#define DERGAMOYNE_H
+
+#include <stddef.h>
+#include <stdint.h>
+
+#ifdef __cplusplus
+extern "C" {
+#endif
+
+enum {
+    DERGAMOYNE_MOST_BLOCKS = 16384, /* the largest M */
+    DERGAMOYNE_MOST_PACE = 65535,   /* the largest U */
+    DERGAMOYNE_MOST_UNITS = 65535,  /* the largest n of Work */
+    DERGAMOYNE_BLOCK_WORDS = 8      /* the words of a block */
+};
+
+/* REFUSALS, in the order in which they are tested. A refused call has value 0 and changes nothing, neither the record nor a
+   buffer. Two calls do units before some of their tests: of a refused Work or Allocate the units finished before the refusal
+   stand, and are counted in its answer. After 1, 2, 9, 3 and 4 there are none. */
+enum dergamoyne_refusal {
+    DERGAMOYNE_DONE = 0,           /* not refused */
+    DERGAMOYNE_DOES_NOT_FIT = 1,   /* M isn't 1 to 16,384, U is above 65,535, or a length isn't 8M, M, M. Format tests the M
+                                      and U that it is given, every other call those of the record: so a record of zeroes,
+                                      never formatted, is refused by 1 */
+    DERGAMOYNE_REGISTERS = 2,      /* the record is not legal: something else has written to it. Format doesn't test this */
+    DERGAMOYNE_TOO_MANY_UNITS = 9, /* Work: n is above 65,535 */
+    DERGAMOYNE_NO_SUCH_WORD = 3,   /* the block is not 2 to M + 1, or the word is above 7. Allocate also takes block 0, but
+                                      only with word 0 */
+    DERGAMOYNE_NO_SUCH_TARGET = 4, /* the target is neither 0 nor 2 to M + 1 */
+    DERGAMOYNE_DAMAGE = 8,         /* a colour or a link that was met is outside the layout: something else has written to
+                                      the buffers */
+    DERGAMOYNE_BLOCK_GONE = 5,     /* the block to read or write is free or doomed */
+    DERGAMOYNE_TARGET_GONE = 6,    /* the target is free or doomed */
+    DERGAMOYNE_NO_FREE_BLOCK = 7   /* Allocate: no block is free */
+};
+
+/* The register record: M, U, the collector's phase (0 idle, 1 marking, 2 sweeping), the first block of its grey list (1 when
+   none), the first free block (0 when none), how many are free, where the sweep stands, the root (0 when none), and how many
+   cycles were begun (after 4,294,967,295 comes 0). */
+struct dergamoyne_regs {
+    uint32_t blocks, pace, phase, grey, free, count, position, root, cycle;
+};
+
+/* What most calls answer: a refusal or 0; a value, 0 where the call has none or is refused; and the units done. */
+struct dergamoyne_answer {
+    uint32_t refusal, value, units;
+};
+
+/* What Read answers: besides, reference is 1 for a word that holds a reference, else 0. Its units are 0. */
+struct dergamoyne_read_answer {
+    uint32_t refusal, value, units, reference;
+};
+
+/* What Look answers: a refusal or 0, and the index in words of the block's first word, 0 where it is refused. */
+struct dergamoyne_look_answer {
+    uint32_t refusal, at;
+};
+
+/* Why an export is not complete, in the order in which it is tested before each row. */
+enum dergamoyne_reason {
+    DERGAMOYNE_COMPLETE = 0,
+    DERGAMOYNE_CIRCLE = 1,      /* there are M rows, and a block more: the list runs in a circle. With a record that was never
+                                   formatted, M is 0, and this is the reason before the first row */
+    DERGAMOYNE_NO_ROOM = 2,     /* the next row doesn't fit the buffer */
+    DERGAMOYNE_REFUSED = 3,     /* Read refuses the link word of the next block; refusal has the number */
+    DERGAMOYNE_NO_REFERENCE = 4 /* the link word of the next block holds a number */
+};
+
+/* What Export answers: complete is 1 or 0; the rows written, either way; the reason; and Read's refusal with reason 3,
+   else 0. */
+struct dergamoyne_export_answer {
+    uint32_t complete, rows, reason, refusal;
+};
+
+/* A size that is another here than in the library doesn't compile. */
+typedef char dergamoyne_regs_is_36_bytes[sizeof(struct dergamoyne_regs) == 36 ? 1 : -1];
+typedef char dergamoyne_answer_is_12_bytes[sizeof(struct dergamoyne_answer) == 12 ? 1 : -1];
+typedef char dergamoyne_read_answer_is_16_bytes[sizeof(struct dergamoyne_read_answer) == 16 ? 1 : -1];
+typedef char dergamoyne_look_answer_is_8_bytes[sizeof(struct dergamoyne_look_answer) == 8 ? 1 : -1];
+typedef char dergamoyne_export_answer_is_16_bytes[sizeof(struct dergamoyne_export_answer) == 16 ? 1 : -1];
+typedef char dergamoyne_length_is_8_bytes[sizeof(size_t) == 8 ? 1 : -1];
+
+
+/* ALL THE TIME. Each costs the same on a heap of any size; Allocate besides its units, of which each does. */
+
+/* Allocate: does its units, takes the first free block, and stores a reference to it: in word w of the block b, or with b and
+   w 0 as the root. The value is the new block. Its words are 0, and none is a reference. What was in the word, or was the
+   root, is replaced. Refusals: 1, 2, 3; then, after the units, 8, 5, 7 (and 8 where a unit meets damage). After 7, make
+   something unreachable, give the collector time by Work, and try again; how to see to it that 7 never comes is in
+   docs/SIZING.md. */
+struct dergamoyne_answer dergamoyne_allocate(
+    struct dergamoyne_regs *regs, uint32_t *words, size_t words_length, uint32_t *colours, size_t colours_length,
+    uint8_t *bytes, size_t bytes_length, uint32_t b, uint32_t w);
+
+/* Read: the value is word w of the block b, and reference says whether it is one. Refusals: 1, 2, 3, 8, 5. It changes
+   nothing. */
+struct dergamoyne_read_answer dergamoyne_read(
+    struct dergamoyne_regs regs, const uint32_t *words, size_t words_length, const uint32_t *colours,
+    size_t colours_length, const uint8_t *bytes, size_t bytes_length, uint32_t b, uint32_t w);
+
+/* Store number: word w of the block b becomes the number v, any number; what was there is replaced. The record stays as it is,
+   and is passed by value. Refusals: 1, 2, 3, 8, 5. */
+struct dergamoyne_answer dergamoyne_store_number(
+    struct dergamoyne_regs regs, uint32_t *words, size_t words_length, uint32_t *colours, size_t colours_length,
+    uint8_t *bytes, size_t bytes_length, uint32_t b, uint32_t w, uint32_t v);
+
+/* Store reference: word w of the block b becomes a reference to the block t, or with t 0 the reference to none; what was there
+   is replaced. The collector sees to it that t is kept. Refusals: 1, 2, 3, 4; 8 and 5 for b; 8 and 6 for t. */
+struct dergamoyne_answer dergamoyne_store_reference(
+    struct dergamoyne_regs *regs, uint32_t *words, size_t words_length, uint32_t *colours, size_t colours_length,
+    uint8_t *bytes, size_t bytes_length, uint32_t b, uint32_t w, uint32_t t);
+
+/* Look: where the eight words of the block b stand, to be read from words[at] to words[at + 7] without a call for each. It
+   refuses where Read of word 0 would: 1, 2, 3, 8, 5. It changes nothing. The place of a block never changes;
+   after an Allocate or a Work, ask again whether it may be read. */
+struct dergamoyne_look_answer dergamoyne_look(
+    struct dergamoyne_regs regs, const uint32_t *words, size_t words_length, const uint32_t *colours,
+    size_t colours_length, const uint8_t *bytes, size_t bytes_length, uint32_t b);
+
+
+/* NOW AND THEN */
+
+/* Set root: the root becomes the block t, or none with t 0. What only the old root reached is let go. Refusals: 1, 2, 4, 8, 6.
+   Its cost is constant. */
+struct dergamoyne_answer dergamoyne_set_root(
+    struct dergamoyne_regs *regs, uint32_t *words, size_t words_length, uint32_t *colours, size_t colours_length,
+    uint8_t *bytes, size_t bytes_length, uint32_t t);
+
+/* Work: n units, n at most 65,535, for when there is time. A cycle of the collector is 2 + M units and one more for each block
+   that it marks; what can't be reached when a cycle begins has been freed by its end, unless you store a reference to it
+   meanwhile. Refusals: 1, 2, 9; 8 where a unit meets damage, the units before it standing. */
+struct dergamoyne_answer dergamoyne_work(
+    struct dergamoyne_regs *regs, uint32_t *words, size_t words_length, uint32_t *colours, size_t colours_length,
+    uint8_t *bytes, size_t bytes_length, uint32_t n);
+
+/* Export: the list that starts at the block start and goes on by the reference in word link of each block is written to the
+   buffer out, a row of eight words for each block, in order; the reference 0 ends it, and start 0 is the empty list. The
+   answer is complete with the number of rows, or it is not, with the number of rows that were written before it stopped, and
+   the reason. Of out exactly these rows are written, either way; the heap and the record stay. out_length may be anything: M
+   rows, 8M words, are always enough. The cost goes with the rows. */
+struct dergamoyne_export_answer dergamoyne_export(
+    struct dergamoyne_regs regs, const uint32_t *words, size_t words_length, const uint32_t *colours,
+    size_t colours_length, const uint8_t *bytes, size_t bytes_length, uint32_t *out, size_t out_length, uint32_t start,
+    uint32_t link);
+
+
+/* ONCE, OR SELDOM. Their cost goes with M. */
+
+/* Format: a heap of M blocks, all free, at pace U, whatever the record and the buffers were before: no root, the collector
+   idle, cycle 0. The lengths must be those of m. Refusal: 1, and then the old heap is as it was. */
+struct dergamoyne_answer dergamoyne_format(
+    struct dergamoyne_regs *regs, uint32_t *words, size_t words_length, uint32_t *colours, size_t colours_length,
+    uint8_t *bytes, size_t bytes_length, uint32_t m, uint32_t u);
+
+/* Audit: the value is 1 for a well-formed heap, else 0. Every heap that Format made and that was changed by the calls alone
+   is; where the value is 0, something else has written to it, or a length doesn't fit. It never refuses and changes
+   nothing. */
+struct dergamoyne_answer dergamoyne_audit(
+    struct dergamoyne_regs regs, const uint32_t *words, size_t words_length, const uint32_t *colours,
+    size_t colours_length, const uint8_t *bytes, size_t bytes_length);
+
+#ifdef __cplusplus
+}
+#endif
+
+#endif

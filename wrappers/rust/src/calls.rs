@@ -1,0 +1,91 @@
+//! The calls over slices, with their answers in numbers. What a C caller has to see to (pointers that are aligned and not null,
+//! lengths that are true, buffers that don't overlap) the types of the slices settle, so none is `unsafe`. Any numbers, any
+//! lengths and any contents are taken, and answered by a refusal number where need be.
+use crate::raw::{self, Answer, ExportAnswer, LookAnswer, ReadAnswer, Regs};
+
+/// Calls that may change the record and the buffers.
+macro_rules! changing {
+    ($($(#[$doc:meta])* $name:ident = $function:ident ($($x:ident),*);)*) => {
+        $($(#[$doc])*
+        pub fn $name(regs: &mut Regs, words: &mut [u32], colours: &mut [u32], bytes: &mut [u8] $(, $x: u32)*) -> Answer {
+            // SAFETY: the pointers and lengths are those of live slices of the right types, which don't overlap.
+            unsafe {
+                raw::$function(regs, words.as_mut_ptr(), words.len(), colours.as_mut_ptr(), colours.len(), bytes.as_mut_ptr(), bytes.len() $(, $x)*)
+            }
+        })*
+    };
+}
+
+/// Calls that change nothing.
+macro_rules! seeing {
+    ($($(#[$doc:meta])* $name:ident = $function:ident ($($x:ident),*) -> $answer:ty;)*) => {
+        $($(#[$doc])*
+        pub fn $name(regs: Regs, words: &[u32], colours: &[u32], bytes: &[u8] $(, $x: u32)*) -> $answer {
+            // SAFETY: the pointers and lengths are those of live slices of the right types.
+            unsafe {
+                raw::$function(regs, words.as_ptr(), words.len(), colours.as_ptr(), colours.len(), bytes.as_ptr(), bytes.len() $(, $x)*)
+            }
+        })*
+    };
+}
+
+changing! {
+    /// Format: a heap of m blocks, all free, at pace u. The lengths must be 8m, m and m.
+    format = dergamoyne_format(m, u);
+    /// Store reference: word w of the block b becomes a reference to t, or the reference 0.
+    store_reference = dergamoyne_store_reference(b, w, t);
+    /// Set root: the root becomes t, or none with 0.
+    set_root = dergamoyne_set_root(t);
+    /// Allocate: a new block for word w of the block b, or with 0, 0 for the root.
+    allocate = dergamoyne_allocate(b, w);
+    /// Work: n units, n at most 65,535.
+    work = dergamoyne_work(n);
+}
+
+seeing! {
+    /// Read: word w of the block b, and whether it is a reference.
+    read = dergamoyne_read(b, w) -> ReadAnswer;
+    /// Look: where the eight words of the block b stand.
+    look = dergamoyne_look(b) -> LookAnswer;
+    /// Audit: the value is 1 for a well-formed heap, else 0.
+    audit = dergamoyne_audit() -> Answer;
+}
+
+/// Store number: word w of the block b becomes the number v. The record stays.
+pub fn store_number(regs: Regs, words: &mut [u32], colours: &mut [u32], bytes: &mut [u8], b: u32, w: u32, v: u32) -> Answer {
+    // SAFETY: as above.
+    unsafe {
+        raw::dergamoyne_store_number(
+            regs,
+            words.as_mut_ptr(),
+            words.len(),
+            colours.as_mut_ptr(),
+            colours.len(),
+            bytes.as_mut_ptr(),
+            bytes.len(),
+            b,
+            w,
+            v,
+        )
+    }
+}
+
+/// Export: the rows of the list that starts at the block start and goes on by the reference in word link, to out.
+pub fn export(regs: Regs, words: &[u32], colours: &[u32], bytes: &[u8], out: &mut [u32], start: u32, link: u32) -> ExportAnswer {
+    // SAFETY: as above; out is lent to change, so it overlaps none of the others.
+    unsafe {
+        raw::dergamoyne_export(
+            regs,
+            words.as_ptr(),
+            words.len(),
+            colours.as_ptr(),
+            colours.len(),
+            bytes.as_ptr(),
+            bytes.len(),
+            out.as_mut_ptr(),
+            out.len(),
+            start,
+            link,
+        )
+    }
+}

@@ -1,0 +1,143 @@
+//! A heap that owns its record and buffers.
+use crate::calls;
+use crate::raw::{Answer, ExportAnswer, Regs};
+use crate::refusal::{Refusal, Refused};
+
+/// The largest M.
+const MOST_BLOCKS: u32 = 16384;
+
+/// A heap of M blocks, with its record and its three buffers: 37M bytes of memory.
+#[derive(Clone, Debug)]
+pub struct Heap {
+    regs: Regs,
+    words: Vec<u32>,
+    colours: Vec<u32>,
+    bytes: Vec<u8>,
+}
+
+/// A word of a block.
+#[derive(Clone, Copy, Debug, PartialEq, Eq)]
+pub enum Word {
+    Number(u32),
+    /// The number of a block, or 0 for none.
+    Reference(u32),
+}
+
+/// A new block, and the units of collector work that were done before it was taken.
+#[derive(Clone, Copy, Debug, PartialEq, Eq)]
+pub struct Allocated {
+    pub block: u32,
+    pub units: u32,
+}
+
+/// What an export answers: complete with so many rows; or stopped after so many, for this reason.
+#[derive(Clone, Copy, Debug, PartialEq, Eq)]
+pub enum Exported {
+    Complete(u32),
+    Stopped(u32, Reason),
+}
+
+/// Why an export stopped.
+#[derive(Clone, Copy, Debug, PartialEq, Eq)]
+pub enum Reason {
+    /// There are M rows, and a block more: the list runs in a circle.
+    Circle,
+    /// The next row doesn't fit the buffer.
+    NoRoom,
+    /// Read refuses the link word of the next block.
+    Refused(Refusal),
+    /// The link word of the next block holds a number.
+    NoReference,
+}
+
+impl Heap {
+    /// A heap of m blocks, 1 to 16,384, all free, at pace u, at most 65,535; else refusal 1.
+    pub fn new(m: u32, u: u32) -> Result<Heap, Refused> {
+        // Of an m that is too large nothing is lent: the call then refuses it.
+        let n = if m <= MOST_BLOCKS { m as usize } else { 0 };
+        let mut h = Heap { regs: Regs::default(), words: vec![0; 8 * n], colours: vec![0; n], bytes: vec![0; n] };
+        done(h.changed(|r, w, c, b| calls::format(r, w, c, b, m, u)))?;
+        Ok(h)
+    }
+
+    /// A call that may change the record and the buffers.
+    fn changed<T>(&mut self, call: impl FnOnce(&mut Regs, &mut [u32], &mut [u32], &mut [u8]) -> T) -> T {
+        call(&mut self.regs, &mut self.words, &mut self.colours, &mut self.bytes)
+    }
+
+    /// The register record.
+    pub fn regs(&self) -> Regs {
+        self.regs
+    }
+
+    /// A new block, held by word w of the block b; or with 0, 0 the new root.
+    pub fn allocate(&mut self, b: u32, w: u32) -> Result<Allocated, Refused> {
+        let a = done(self.changed(|r, ws, cs, bs| calls::allocate(r, ws, cs, bs, b, w)))?;
+        Ok(Allocated { block: a.value, units: a.units })
+    }
+
+    /// Word w of the block b.
+    pub fn read(&self, b: u32, w: u32) -> Result<Word, Refused> {
+        let a = calls::read(self.regs, &self.words, &self.colours, &self.bytes, b, w);
+        Refused::unless_zero(a.refusal, a.units)?;
+        Ok(if a.reference == 1 { Word::Reference(a.value) } else { Word::Number(a.value) })
+    }
+
+    /// The eight words of the block b, themselves and no copy.
+    pub fn look(&self, b: u32) -> Result<&[u32], Refused> {
+        let a = calls::look(self.regs, &self.words, &self.colours, &self.bytes, b);
+        Refused::unless_zero(a.refusal, 0)?;
+        Ok(&self.words[a.at as usize..a.at as usize + 8])
+    }
+
+    /// Word w of the block b becomes the number v.
+    pub fn store_number(&mut self, b: u32, w: u32, v: u32) -> Result<(), Refused> {
+        done(self.changed(|r, ws, cs, bs| calls::store_number(*r, ws, cs, bs, b, w, v)))?;
+        Ok(())
+    }
+
+    /// Word w of the block b becomes a reference to the block t, or with 0 the reference to none.
+    pub fn store_reference(&mut self, b: u32, w: u32, t: u32) -> Result<(), Refused> {
+        done(self.changed(|r, ws, cs, bs| calls::store_reference(r, ws, cs, bs, b, w, t)))?;
+        Ok(())
+    }
+
+    /// The root becomes the block t, or none with 0.
+    pub fn set_root(&mut self, t: u32) -> Result<(), Refused> {
+        done(self.changed(|r, w, c, b| calls::set_root(r, w, c, b, t)))?;
+        Ok(())
+    }
+
+    /// n units of collector work, n at most 65,535; answers the units done.
+    pub fn work(&mut self, n: u32) -> Result<u32, Refused> {
+        Ok(done(self.changed(|r, w, c, b| calls::work(r, w, c, b, n)))?.units)
+    }
+
+    /// Whether the heap is well-formed. Every heap of this type is, since only the calls can change it.
+    pub fn audit(&self) -> bool {
+        calls::audit(self.regs, &self.words, &self.colours, &self.bytes).value == 1
+    }
+
+    /// The rows of the list that starts at the block start, where 0 is the empty list, and goes on by the reference in word link,
+    /// eight words a row. Exactly the rows counted are written.
+    pub fn export(&self, out: &mut [u32], start: u32, link: u32) -> Exported {
+        exported(calls::export(self.regs, &self.words, &self.colours, &self.bytes, out, start, link))
+    }
+}
+
+/// The answer of a call that is done, or its refusal with the units that stand.
+fn done(a: Answer) -> Result<Answer, Refused> {
+    Refused::unless_zero(a.refusal, a.units)?;
+    Ok(a)
+}
+
+/// An export's answer by its numbers.
+fn exported(a: ExportAnswer) -> Exported {
+    match (a.reason, Refusal::of(a.refusal)) {
+        (0, _) => Exported::Complete(a.rows),
+        (1, _) => Exported::Stopped(a.rows, Reason::Circle),
+        (2, _) => Exported::Stopped(a.rows, Reason::NoRoom),
+        (3, Some(refusal)) => Exported::Stopped(a.rows, Reason::Refused(refusal)),
+        _ => Exported::Stopped(a.rows, Reason::NoReference),
+    }
+}

@@ -1,0 +1,135 @@
+//! Document 01's listing, its refusals, and the export, by `Heap` and by the calls over slices.
+use dergamoyne::{calls, Allocated, Exported, Heap, Reason, Refusal, Refused, Regs, Word};
+
+fn by(refusal: Refusal) -> Refused {
+    Refused { refusal, units: 0 }
+}
+
+/// The heap after the listing's first seven lines: block 3 is doomed.
+fn seven_lines() -> Heap {
+    let mut h = Heap::new(3, 1).unwrap();
+    assert_eq!(h.allocate(0, 0), Ok(Allocated { block: 2, units: 1 }));
+    assert_eq!(h.allocate(2, 0), Ok(Allocated { block: 3, units: 1 }));
+    assert_eq!(h.work(3), Ok(3));
+    assert_eq!(h.read(2, 0), Ok(Word::Reference(3)));
+    assert_eq!(h.store_reference(2, 0, 0), Ok(()));
+    assert_eq!(h.work(4), Ok(4));
+    h
+}
+
+#[test]
+fn listing() {
+    let h = seven_lines();
+    assert_eq!(h.read(3, 0), Err(by(Refusal::BlockGone)));
+    assert!(h.audit());
+}
+
+/// The listing over slices prints what the program listing prints.
+#[test]
+fn listing_over_slices() {
+    let (mut regs, mut words, mut colours, mut bytes) = (Regs::default(), [0; 24], [0; 3], [0; 3]);
+    let (r, w, c, b) = (&mut regs, &mut words[..], &mut colours[..], &mut bytes[..]);
+    let mut said = String::new();
+    let mut say = |x: u32, y: u32, z: u32| said.push_str(&format!("{x} {y} {z}\n"));
+    let a = calls::format(r, w, c, b, 3, 1);
+    say(a.refusal, a.value, a.units);
+    for (x, y) in [(0, 0), (2, 0)] {
+        let a = calls::allocate(r, w, c, b, x, y);
+        say(a.refusal, a.value, a.units);
+    }
+    let a = calls::work(r, w, c, b, 3);
+    say(a.refusal, a.value, a.units);
+    let a = calls::read(*r, w, c, b, 2, 0);
+    say(a.refusal, a.value, a.reference);
+    let a = calls::store_reference(r, w, c, b, 2, 0, 0);
+    say(a.refusal, a.value, a.units);
+    let a = calls::work(r, w, c, b, 4);
+    say(a.refusal, a.value, a.units);
+    let a = calls::read(*r, w, c, b, 3, 0);
+    say(a.refusal, a.value, a.reference);
+    let a = calls::audit(*r, w, c, b);
+    say(a.refusal, a.value, a.units);
+    assert_eq!(said, include_str!("../../../crates/listing/stdout"));
+}
+
+#[test]
+fn refusals() {
+    assert_eq!(Heap::new(0, 1).unwrap_err(), by(Refusal::DoesNotFit));
+    assert_eq!(Heap::new(16385, 1).unwrap_err(), by(Refusal::DoesNotFit));
+    assert_eq!(Heap::new(1, 65536).unwrap_err(), by(Refusal::DoesNotFit));
+    assert!(Heap::new(16384, 65535).unwrap().audit());
+    let mut h = seven_lines();
+    let before = h.regs();
+    assert_eq!(h.read(2, 8), Err(by(Refusal::NoSuchWord)));
+    assert_eq!(h.look(5), Err(by(Refusal::NoSuchWord)));
+    assert_eq!(h.set_root(5), Err(by(Refusal::NoSuchTarget)));
+    assert_eq!(h.store_number(3, 0, 7), Err(by(Refusal::BlockGone)));
+    assert_eq!(h.store_reference(2, 1, 3), Err(by(Refusal::TargetGone)));
+    assert_eq!(h.work(65536), Err(by(Refusal::TooManyUnits)));
+    assert_eq!(h.regs(), before);
+    let mut one = Heap::new(1, 1).unwrap();
+    one.allocate(0, 0).unwrap();
+    assert_eq!(one.allocate(2, 0), Err(Refused { refusal: Refusal::NoFreeBlock, units: 1 }));
+}
+
+/// Refusals 2 and 8, which a `Heap` can't meet.
+#[test]
+fn damage() {
+    let (mut regs, mut words, mut colours, mut bytes) = (Regs::default(), [0; 8], [0; 1], [0; 1]);
+    assert_eq!(calls::format(&mut regs, &mut words, &mut colours, &mut bytes, 1, 1).refusal, 0);
+    let wrong = Regs { phase: 3, ..regs };
+    assert_eq!(calls::look(wrong, &words, &colours, &bytes, 2).refusal, 2);
+    colours[0] = 4294967293;
+    assert_eq!(calls::read(regs, &words, &colours, &bytes, 2, 0).refusal, 8);
+    assert_eq!(calls::audit(regs, &words, &colours, &bytes).value, 0);
+    assert_eq!(calls::audit(regs, &[], &[], &[]).value, 0);
+}
+
+#[test]
+fn look_and_numbers() {
+    let mut h = seven_lines();
+    h.store_number(2, 7, u32::MAX).unwrap();
+    assert_eq!(h.look(2), Ok(&[0, 0, 0, 0, 0, 0, 0, u32::MAX][..]));
+    assert_eq!(h.read(2, 7), Ok(Word::Number(u32::MAX)));
+    assert_eq!(h.look(3), Err(by(Refusal::BlockGone)));
+}
+
+/// The list 2, 3 by the links in word 0, complete and not.
+#[test]
+fn exports() {
+    let mut h = Heap::new(2, 1).unwrap();
+    for holder in [0, 2] {
+        let b = h.allocate(holder, 0).unwrap().block;
+        h.store_reference(b, 0, 0).unwrap();
+        h.store_number(b, 1, 10 * b).unwrap();
+    }
+    let mut out = [7; 17];
+    assert_eq!(h.export(&mut out, 2, 0), Exported::Complete(2));
+    assert_eq!(out, [3, 20, 0, 0, 0, 0, 0, 0, 0, 30, 0, 0, 0, 0, 0, 0, 7]);
+    assert_eq!(h.export(&mut [], 0, 0), Exported::Complete(0));
+    assert_eq!(h.export(&mut out[..15], 2, 0), Exported::Stopped(1, Reason::NoRoom));
+    assert_eq!(h.export(&mut out, 2, 1), Exported::Stopped(0, Reason::NoReference));
+    assert_eq!(h.export(&mut out, 4, 0), Exported::Stopped(0, Reason::Refused(Refusal::NoSuchWord)));
+    h.store_reference(3, 0, 2).unwrap();
+    assert_eq!(h.export(&mut out, 2, 0), Exported::Stopped(2, Reason::Circle));
+}
+
+/// Heaps in different threads don't meet.
+#[test]
+fn threads() {
+    let runs: Vec<_> = (0..4)
+        .map(|_| {
+            std::thread::spawn(|| {
+                let mut h = Heap::new(100, 8).unwrap();
+                h.allocate(0, 0).unwrap();
+                for _ in 0..10_000 {
+                    h.allocate(2, 0).unwrap();
+                }
+                assert!(h.audit());
+                h.regs()
+            })
+        })
+        .collect();
+    let ends: Vec<Regs> = runs.into_iter().map(|t| t.join().unwrap()).collect();
+    assert!(ends.windows(2).all(|x| x[0] == x[1]));
+}
