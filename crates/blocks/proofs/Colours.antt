@@ -2,21 +2,18 @@
 --     is-white, is-black, is-free, is-grey, is-outside     what a colour word means
 --     head-block                                           a legal grey head that isn't 1 is a block, while marking
 --     not-a-block, not-white, was-white                    the three ways of greyWhite
---     allocated-no, allocated-yes                          the two ways of isAllocated
 -- Assumes nothing.
 use Prim.Native.Nat.{ℕ, _+_, _≤_, _<_}
 use mathlib.Core.Path.{_≡_, refl}
 use mathlib.Core.Logic.{_≢_, ⊎-elim}
 use mathlib.Core.Bool.{Bool, true, false, _&&_}
-use mathlib.Core.List.{List}
 use lib.Dec.{eqb}
 use borrow.Author.Tests.{le-leb, lt-leb, eq-eqb, ne-eqb, eqb-true}
-use Rattle.blocks.specs.declared.Colour.{Colour}
 use Rattle.blocks.specs.declared.Colour.the-variants.{White, Grey, Black, Free, Outside}
 use Rattle.blocks.specs.Tests.{if_then_else_}
 use Rattle.blocks.specs.Registers.{marking}
 use Rattle.blocks.specs.Block.{isBlock}
-use Rattle.blocks.specs.Colouring.{Colouring, white, black, freed, colour, colourWord, toGrey, greyWhite, allocatedColour, isAllocated, headLegal}
+use Rattle.blocks.specs.Colouring.{Colouring, white, black, freed, colour, colourWord, toGrey, greyWhite, headLegal}
 use Rattle.blocks.specs.WellFormed.{Block}
 use Rattle.blocks.proofs.Tests.{both-true, either-true}
 use Rattle.blocks.proofs.Blocks.{isBlock-block}
@@ -66,12 +63,3 @@ module _ (m b : ℕ) (k : Colouring) where
   pub was-white : isBlock m b ≡ true → colourWord (k .cells) b ≡ white → toGrey b k ≡ greyWhite m b k
   unfolding greyWhite
   was-white e w = simp (e, eq-eqb (colourWord (k .cells) b) white w)
-
-module _ (m : ℕ) (cs : List ℕ) (b : ℕ) where
-  pub allocated-no : isBlock m b ≡ false → false ≡ isAllocated m cs b
-  unfolding isAllocated
-  allocated-no e = simp e
-
-  pub allocated-as : (t : Bool) (c : Colour) (word : ℕ) → isBlock m b ≡ true → word ≡ colourWord cs b → c ≡ colour m word → t ≡ allocatedColour c → t ≡ isAllocated m cs b
-  unfolding isAllocated
-  allocated-as t c word e w i a = rw (a, i, w, e) refl

@@ -1,4 +1,5 @@
 -- The machine of document 01, one notion a file. Read in this order.
+-- Ready and Seen are not of document 01: they say what parts of the code leave to each other.
 pub mod Tests
 pub mod Registers
 pub mod Block

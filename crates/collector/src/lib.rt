@@ -1,8 +1,5 @@
-// The collector: units of work, and units in a row. A unit tests everything it meets before it writes.
-// Units of one phase are done in a loop of that phase, which keeps what changes in machine registers; `run` goes from loop to loop.
-pub mod marking; // marking.rt: a unit that marks, and such units in a row
-pub mod sweeping; // sweeping.rt: a unit that sweeps, and such units in a row
-
+// The collector: n units in a row. Units of one phase are done in a loop of that phase, which keeps what changes in machine
+// registers; `run` goes from loop to loop. Here are the units that begin a cycle and that end marking, which come alone.
 use blocks::Progress;
 use blocks::Ran;
 use blocks::Regs;
@@ -16,42 +13,9 @@ ghost use Rattle.blocks.specs.Registers.{idle};
 ghost use Rattle.blocks.specs.WellFormed.{Block};
 ghost use Rattle.blocks.specs.Heap.{Heap, heap};
 ghost use Rattle.blocks.specs.Ready.{Ready};
-ghost use Rattle.blocks.specs.OneUnit.{step, begun, turned, unit, ended};
+ghost use Rattle.blocks.specs.OneUnit.{begun, turned, unit, ended};
 ghost use Rattle.blocks.specs.Units.{run, ran};
-ghost use Rattle.collector.specs.Going.{Went};
-
-// The step that a unit takes: by phase, grey head and the colour word met alone.
-pub fn step(m: u32, phase: u32, grey: u32, word: u32) -> Step
-    requires { ⌜ m ≤ 16384 ⌝ }
-    ensures { λ s. ⌜ s ≡ step m phase grey word ⌝ }
-{
-    match phase {
-        0 => match word {
-            0 => Step::Begin,
-            _ => Step::Damage,
-        },
-        1 => match grey {
-            1 => Step::Turn,
-            _ => match word {
-                1..=16385 => {
-                    if word <= m + 1 {
-                        Step::Mark
-                    } else {
-                        Step::Damage
-                    }
-                }
-                _ => Step::Damage,
-            },
-        },
-        2 => match word {
-            0 => Step::Reclaim,
-            4294967295 => Step::Whiten,
-            4294967294 => Step::Pass,
-            _ => Step::Damage,
-        },
-        _ => Step::Damage,
-    }
-}
+ghost use Rattle.stepping.specs.Going.{Went};
 
 // Idle: a cycle begins, and a root that isn't 0 becomes grey.
 pub fn begin(r: Regs, colours: &mut [u32]) -> Regs
@@ -75,7 +39,7 @@ pub fn begin_unit(r: Regs, colours: &mut [u32]) -> Progress
     ensures { λ p. ⌜ ((ws bs : List ℕ) → ended r p ws (now (colours .exit)) bs ≡ unit (heap r ws (now (colours .entry)) bs)) ⌝ }
 {
     let word = colours::word_met(r.blocks, &colours[..], r.root);
-    if let Step::Begin = step(r.blocks, 0, r.grey, word) {
+    if let Step::Begin = stepping::step(r.blocks, 0, r.grey, word) {
         return Progress::Done(begin(r, colours));
     }
     Progress::Damaged

@@ -9,7 +9,7 @@ ghost use Prim.Native.Nat.{_≤_};
 ghost use lib.ListN.{length, replicate};
 ghost use Rattle.blocks.specs.WellFormed.{Block};
 ghost use Rattle.blocks.specs.Block.{isBlock};
-ghost use Rattle.blocks.specs.Colouring.{Colouring, colour, colourWord, paint, toGrey, toBlack, greyWhite, allocatedColour, freeColour, isAllocated, freshColours};
+ghost use Rattle.blocks.specs.Colouring.{Colouring, colour, colourWord, paint, toGrey, toBlack, greyWhite, freeColour, freshColours};
 ghost use Rattle.blocks.specs.Seen.{seenColour, seen};
 ghost use Rattle.blocks.specs.Tests.{if_then_else_};
 
@@ -74,19 +74,6 @@ pub fn word_met(m: u32, colours: &[u32], b: u32) -> u32
     0
 }
 
-// Whether a block of the colour is allocated.
-pub fn allocated_colour(c: Colour) -> bool
-    ensures { λ r. ⌜ r ≡ allocatedColour c ⌝ }
-{
-    match c {
-        Colour::White => true,
-        Colour::Grey => true,
-        Colour::Black => true,
-        Colour::Free => false,
-        Colour::Outside => false,
-    }
-}
-
 // Whether a block of the colour is free.
 pub fn free_colour(c: Colour) -> bool
     ensures { λ r. ⌜ r ≡ freeColour c ⌝ }
@@ -98,17 +85,6 @@ pub fn free_colour(c: Colour) -> bool
         Colour::Free => true,
         Colour::Outside => false,
     }
-}
-
-// Whether b is a block whose colour is legal and not free.
-pub fn is_allocated(m: u32, colours: &[u32], b: u32) -> bool
-    requires { ⌜ (m ≤ 16384) × (length (now colours) ≡ m) ⌝ }
-    ensures { λ r. ⌜ r ≡ isAllocated m (now (colours .entry)) b ⌝ }
-{
-    if is_block(m, b) {
-        return allocated_colour(colour(m, word_of(colours, b)));
-    }
-    false
 }
 
 // The block b goes to the front of the grey list that starts at head. Answers the head afterwards.

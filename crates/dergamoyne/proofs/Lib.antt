@@ -1,6 +1,3 @@
--- What the proofs of the outer calls share.
+-- What the proofs of the calls that change no register share.
 pub mod Looking
 pub mod Keeping
-pub mod Numbers
-pub mod Locals
-pub mod Outer

@@ -3,7 +3,7 @@ use mathlib.Core.Path.{refl, ap}
 use Rattle.blocks.specs.OneUnit.{finish, act, ended}
 use Rattle.blocks.proofs.Blocks.{block-as}
 use Rattle.blocks.proofs.Running.{met-idle, unit-by}
-use Rattle.collector.proofs.Picking.{begins-or}
+use Rattle.stepping.proofs.Picking.{begins-or}
 use borrow.Author.Needs.{needs}
 use Rattle.collector.proofs.begin_unit.Statement.{statement}
 use Rattle.collector.proofs.begin_unit.Tie as tie

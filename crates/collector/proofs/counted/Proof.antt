@@ -1,5 +1,5 @@
 -- `collector::counted` meets its contract. Assumes nothing.
-use Rattle.collector.proofs.Going.{counted-on, counted-off}
+use Rattle.stepping.proofs.Going.{counted-on, counted-off}
 use borrow.Author.Needs.{needs}
 use Rattle.collector.proofs.counted.Statement.{statement}
 use Rattle.collector.proofs.counted.Tie as tie

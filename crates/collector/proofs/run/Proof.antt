@@ -7,8 +7,8 @@ use borrow.Author.Tests.{eqb-true, eqb-false}
 use Rattle.blocks.specs.Heap.{heap}
 use Rattle.blocks.specs.Ready.{Ready}
 use Rattle.blocks.specs.Units.{run}
-use Rattle.collector.specs.Going.{left}
-use Rattle.collector.proofs.Going.{left-first, left-on, left-out, left-off, due, due-less}
+use Rattle.stepping.specs.Going.{left}
+use Rattle.stepping.proofs.Going.{left-first, left-on, left-out, left-off, due, due-less}
 use borrow.Author.Needs.{needs}
 use Rattle.collector.proofs.run.Statement.{statement}
 use Rattle.collector.proofs.run.Tie as tie

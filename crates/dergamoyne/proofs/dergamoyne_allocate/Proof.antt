@@ -2,7 +2,7 @@
 use Rattle.blocks.specs.Allocate.{allocate}
 use Rattle.allocating.proofs.allocate.Symbol as core
 use Rattle.allocating.proofs.allocate.Met as core-thm
-use Rattle.dergamoyne.proofs.Outer.{lends}
+use Rattle.lending.proofs.Outer.{lends}
 use Rattle.dergamoyne.proofs.dergamoyne_allocate.Key.{name}
 use Rattle.dergamoyne.proofs.dergamoyne_allocate.Statement.{statement}
 use Rattle.dergamoyne.proofs.dergamoyne_allocate.Code as code

@@ -2,7 +2,7 @@
 use Rattle.blocks.specs.Format.{format}
 use Rattle.formatting.proofs.format.Symbol as core
 use Rattle.formatting.proofs.format.Met as core-thm
-use Rattle.dergamoyne.proofs.Outer.{lends}
+use Rattle.lending.proofs.Outer.{lends}
 use Rattle.dergamoyne.proofs.dergamoyne_format.Key.{name}
 use Rattle.dergamoyne.proofs.dergamoyne_format.Statement.{statement}
 use Rattle.dergamoyne.proofs.dergamoyne_format.Code as code

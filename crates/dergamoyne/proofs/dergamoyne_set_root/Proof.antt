@@ -2,7 +2,7 @@
 use Rattle.blocks.specs.Store.{setRoot}
 use Rattle.storing.proofs.set_root.Symbol as core
 use Rattle.storing.proofs.set_root.Met as core-thm
-use Rattle.dergamoyne.proofs.Outer.{lends}
+use Rattle.lending.proofs.Outer.{lends}
 use Rattle.dergamoyne.proofs.dergamoyne_set_root.Key.{name}
 use Rattle.dergamoyne.proofs.dergamoyne_set_root.Statement.{statement}
 use Rattle.dergamoyne.proofs.dergamoyne_set_root.Code as code

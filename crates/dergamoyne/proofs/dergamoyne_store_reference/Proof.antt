@@ -2,7 +2,7 @@
 use Rattle.blocks.specs.Store.{storeReference}
 use Rattle.storing.proofs.store_reference.Symbol as core
 use Rattle.storing.proofs.store_reference.Met as core-thm
-use Rattle.dergamoyne.proofs.Outer.{lends}
+use Rattle.lending.proofs.Outer.{lends}
 use Rattle.dergamoyne.proofs.dergamoyne_store_reference.Key.{name}
 use Rattle.dergamoyne.proofs.dergamoyne_store_reference.Statement.{statement}
 use Rattle.dergamoyne.proofs.dergamoyne_store_reference.Code as code

@@ -2,7 +2,7 @@
 use Rattle.blocks.specs.Work.{work}
 use Rattle.working.proofs.work.Symbol as core
 use Rattle.working.proofs.work.Met as core-thm
-use Rattle.dergamoyne.proofs.Outer.{lends}
+use Rattle.lending.proofs.Outer.{lends}
 use Rattle.dergamoyne.proofs.dergamoyne_work.Key.{name}
 use Rattle.dergamoyne.proofs.dergamoyne_work.Statement.{statement}
 use Rattle.dergamoyne.proofs.dergamoyne_work.Code as code

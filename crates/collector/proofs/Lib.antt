@@ -1,3 +1,0 @@
--- Laws of the collector's loops.
-pub mod Picking
-pub mod Going

@@ -1,2 +1,0 @@
--- What the collector's loops say of each other.
-pub mod Going

@@ -1,0 +1,4 @@
+-- The outer calls that change the registers, proved once for all of them.
+pub mod Numbers
+pub mod Locals
+pub mod Outer

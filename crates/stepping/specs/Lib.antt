@@ -1,0 +1,2 @@
+-- How the loops of the phases fit.
+pub mod Going
