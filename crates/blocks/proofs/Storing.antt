@@ -6,16 +6,19 @@
 --     number-stored, reference-stored, root-set     the calls, where nothing refuses
 --     root-ready, storable     what a refusal number 0 of Set root and of Store reference establishes
 --     word-writable            what a write of a readable word asks for
+--     reference-keeps, root-keeps     the registers that Store reference and Set root keep: all but the grey head, and but that and the root
 -- Assumes nothing.
 use Prim.Native.Nat.{ℕ, _*_, _≤_}
-use mathlib.Core.Path.{_≡_, refl, sym, _∙_}
+use mathlib.Core.Path.{_≡_, refl, sym, ap, _∙_}
 use mathlib.Core.Logic.{_≢_}
+use mathlib.Core.Bool.{Bool, true, false}
 use mathlib.Core.List.{List}
 use native.Mathlib.Omega.{arith}
+use lib.Dec.{eqb}
 use lib.ListN.{length, set}
 use borrow.Author.Tests.{eq-eqb, ne-eqb}
-use Rattle.blocks.specs.Tests.{_▷_}
-use Rattle.blocks.specs.Registers.{marking, withRoot}
+use Rattle.blocks.specs.Tests.{if_then_else_, _▷_}
+use Rattle.blocks.specs.Registers.{marking, withGrey, withRoot}
 use Rattle.blocks.specs.Block.{place, setBit, clearBit}
 use Rattle.blocks.specs.Colouring.{Colouring, greyWhite}
 use Rattle.blocks.specs.Heap.{Heap, heap, colouring, withRegs, withColouring}
@@ -112,3 +115,38 @@ storable h b w t e =
 
 pub word-writable : {h : Heap} {b w : ℕ} → Readable h b w → (length (h .words) ≡ 8 * length (h .bytes)) × Block (length (h .bytes)) b × (w ≤ 7)
 word-writable d = (omega arith, record { low = d .block .low; high = omega arith }, d .low)
+
+-- ---- what is kept of the registers
+barrier-keeps : (t : ℕ) (h : Heap) → withGrey (barrier t h .regs .grey) (h .regs) ≡ barrier t h .regs
+unfolding barrier
+barrier-keeps t h = go (eqb (h .regs .phase) marking)
+  where
+    greyed : Heap
+    greyed = withColouring (greyWhite (h .regs .blocks) t (colouring h)) h
+
+    go : (x : Bool) → withGrey ((if x then greyed else h) .regs .grey) (h .regs) ≡ (if x then greyed else h) .regs
+    go true = refl
+    go false = refl
+
+module _ (t : ℕ) (h : Heap) where
+  pub reference-keeps : (b w : ℕ) → withGrey (storeReference b w t h .heap .regs .grey) (h .regs) ≡ storeReference b w t h .heap .regs
+  unfolding storeReference putReference unless
+  reference-keeps b w = go (eqb (storeRefusal b w t h) 0)
+    where
+      given : Bool → Given
+      given x = if x then done 0 (putReference b w t (barrier t h)) else refuse (storeRefusal b w t h) h
+
+      go : (x : Bool) → withGrey (given x .heap .regs .grey) (h .regs) ≡ given x .heap .regs
+      go true = barrier-keeps t h
+      go false = refl
+
+  pub root-keeps : withRoot (setRoot t h .heap .regs .root) (withGrey (setRoot t h .heap .regs .grey) (h .regs)) ≡ setRoot t h .heap .regs
+  unfolding setRoot unless
+  root-keeps = go (eqb (rootRefusal t h) 0)
+    where
+      given : Bool → Given
+      given x = if x then done 0 (withRegs (withRoot t (barrier t h .regs)) (barrier t h)) else refuse (rootRefusal t h) h
+
+      go : (x : Bool) → withRoot (given x .heap .regs .root) (withGrey (given x .heap .regs .grey) (h .regs)) ≡ given x .heap .regs
+      go true = ap (withRoot t) (barrier-keeps t h)
+      go false = refl

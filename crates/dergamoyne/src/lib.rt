@@ -110,7 +110,7 @@ pub extern "C" fn dergamoyne_store_reference(
     ensures { λ a. ⌜ given (record { regs = now (regs .exit); answer = a }) (now (words .exit)) (now (colours .exit)) (now (bytes .exit)) ≡ storeReference b w t (heap (now (regs .entry)) (now (words .entry)) (now (colours .entry)) (now (bytes .entry))) ⌝ }
 {
     let stored = storing::store_reference(*regs, words, colours, bytes, b, w, t);
-    *regs = stored.regs;
+    regs.grey = stored.regs.grey;
     stored.answer
 }
 
@@ -126,7 +126,8 @@ pub extern "C" fn dergamoyne_set_root(
     ensures { λ a. ⌜ given (record { regs = now (regs .exit); answer = a }) (now (words .exit)) (now (colours .exit)) (now (bytes .exit)) ≡ setRoot t (heap (now (regs .entry)) (now (words .entry)) (now (colours .entry)) (now (bytes .entry))) ⌝ }
 {
     let set = storing::set_root(*regs, words, colours, bytes, t);
-    *regs = set.regs;
+    regs.grey = set.regs.grey;
+    regs.root = set.regs.root;
     set.answer
 }
 

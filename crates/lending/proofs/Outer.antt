@@ -1,12 +1,12 @@
 -- The outer calls that change the registers, proved once for all of them and for any count k of number parameters:
---     pub fn OUTER(regs: &mut Regs, words: &mut [u32], colours: &mut [u32], bytes: &mut [u8], k numbers) -> Answer { let o = CORE(*regs, words, colours, bytes, the numbers); *regs = o.regs; o.answer }
--- meets the contract that CORE meets, with the record at exit for the registers that CORE gives back.
+--     pub fn OUTER(regs: &mut Regs, words: &mut [u32], colours: &mut [u32], bytes: &mut [u8], k numbers) -> Answer { let o = CORE(*regs, words, colours, bytes, the numbers); BACK; o.answer }
+-- meets the contract that CORE meets, with the record at exit for the registers that CORE gives back. BACK is `*regs = o.regs`, or writes those registers back that the call can change (Back.antt).
 --     signature, clauses   the outer call's, over a definition S of what the call gives.        core-signature, core-clauses     the core's
---     function k f         the outer call's MIR, over a core of the name f
---     lends                the law. All that it takes of the core is that it meets its contract
+--     function k f back    the outer call's MIR, over a core of the name f
+--     lends                the law. All that it takes of the core is that it meets its contract, and of S that it keeps the registers that aren't written back
 -- The proof walks the MIR. The record's borrow is opened, the record is copied and handed to the core with the three slices, which are given up for good; what the core returns is stored in the record's cell, and the borrow is closed there.
 -- Assumes nothing.
-use mathlib.Core.Path.{_≡_, refl, ap, _∙_}
+use mathlib.Core.Path.{_≡_, refl, sym, ap, subst, _∙_}
 use Prim.Native.Nat.{ℕ, suc}
 use mathlib.Core.List.{[], _∷_, List}
 use lib.ListN.{length}
@@ -60,7 +60,8 @@ use Rattle.blocks.proofs.Outcome as O
 use Rattle.blocks.proofs.Outcome.Laws as O′
 use Rattle.lending.proofs.Numbers as Numbers
 use Rattle.lending.proofs.Numbers.{Nums, Small, slots, read, write, read-write, vals, ints}
-use Rattle.lending.proofs.Locals.{up, withNums, opds, allocs-nums, passes-nums, frees-nums, past, at-place, has-after, reads-nums}
+use Rattle.lending.proofs.Back.{tmp, the-record, Back}
+use Rattle.lending.proofs.Locals.{withNums, opds, allocs-nums, passes-nums, frees-nums, past, at-place, has-after, reads-nums}
 
 -- ---- the two signatures and contracts
 module _ (k : ℕ) where
@@ -110,16 +111,16 @@ module _ (k : ℕ) where
   abbrev stayed : Stays (ended .signature .params) (ended .kept)
   stayed = (stay-ref (0 ∷ []) tt (plain (λ _. T.the-row)), (gave-slice (1 ∷ []) tt (plain (λ _. u32)), (gave-slice (2 ∷ []) tt (plain (λ _. u32)), (gave-slice (3 ∷ []) tt (plain (λ _. u8)), Numbers.stays 4 k))))
 
+-- what isn't written back is kept
+abbrev pub Keeps : (k : ℕ) → (Nums k → B.Heap → Gives) → Back k → Type 0
+Keeps k S back = (m : Nums k) (h : B.Heap) → back .Kept (h .regs) (S m h .heap .regs)
+
 -- ---- the MIR
 abbrev lent : Ty → Ty
 lent τ = tyRef erased mut τ
 
--- the local j past the record, the slices and the numbers: 0 what the core gives, 1 the registers, then a pointer and a slice for each buffer
-abbrev tmp : ℕ → ℕ → ℕ
-tmp k j = suc (suc (suc (suc (suc (up k j)))))
-
-abbrev pub function : ℕ → Name → Fn
-function k f = record {
+abbrev pub function : (k : ℕ) → Name → Back k → Fn
+function k f back = record {
   lifetimes = 4;
   outlives = [];
   params = suc (suc (suc (suc k)));
@@ -133,13 +134,12 @@ function k f = record {
       (seq (assign (place (tmp k 6) []) (addrOf (place 4 (field 0 ∷ deref (tyInt w8) ∷ []))))
       (seq (assign (place (tmp k 7) []) (aggregate (copy (place (tmp k 6) []) ∷ copy (place 4 (field 1 ∷ [])) ∷ [])))
       (seq (call f (copy (place (tmp k 1) []) ∷ copy (place (tmp k 3) []) ∷ copy (place (tmp k 5) []) ∷ copy (place (tmp k 7) []) ∷ opds 5 k) (place (tmp k 0) []))
-      (seq (assign (place 1 (deref T′.mir ∷ [])) (rvOpd (copy (place (tmp k 0) (field 0 ∷ [])))))
-      (seq (assign (place 0 []) (rvOpd (copy (place (tmp k 0) (field 1 ∷ [])))))
+      (back .code (seq (assign (place 0 []) (rvOpd (copy (place (tmp k 0) (field 1 ∷ [])))))
       return)))))))));
 }
 
 -- ---- the walk
-module _ (k : ℕ) (S : Nums k → B.Heap → Gives) {M : Type 1} (𝓤 : URA M) (H : Heap 𝓤) (A : Atoms 𝓤) (W : Given 𝓤 H A) (κ κ₁ κ₂ κ₃ : Lft) (bounds : AllOutlive 4 (signature k .outlives) (κ, (κ₁, (κ₂, (κ₃, tt))))) (q q₁ q₂ q₃ : Share) (b o : ℕ) (γ : GName) (r : Regs) (x₁ x₂ x₃ : RefT (List ℕ)) (ns : Numbers.Args 4 (κ, (κ₁, (κ₂, (κ₃, tt)))) k) (small : Small k (read 4 (κ, (κ₁, (κ₂, (κ₃, tt)))) k ns)) where
+module _ (k : ℕ) (S : Nums k → B.Heap → Gives) (back : Back k) (keeps : Keeps k S back) {M : Type 1} (𝓤 : URA M) (H : Heap 𝓤) (A : Atoms 𝓤) (W : Given 𝓤 H A) (κ κ₁ κ₂ κ₃ : Lft) (bounds : AllOutlive 4 (signature k .outlives) (κ, (κ₁, (κ₂, (κ₃, tt))))) (q q₁ q₂ q₃ : Share) (b o : ℕ) (γ : GName) (r : Regs) (x₁ x₂ x₃ : RefT (List ℕ)) (ns : Numbers.Args 4 (κ, (κ₁, (κ₂, (κ₃, tt)))) k) (small : Small k (read 4 (κ, (κ₁, (κ₂, (κ₃, tt)))) k ns)) where
   abbrev κs : Lfts 4
   κs = (κ, (κ₁, (κ₂, (κ₃, tt))))
 
@@ -191,6 +191,9 @@ module _ (k : ℕ) (S : Nums k → B.Heap → Gives) {M : Type 1} (𝓤 : URA M)
   abbrev Says : Nums k → Outcome → List ℕ → List ℕ → List ℕ → Type 0
   Says n t z₁ z₂ z₃ = given t z₁ z₂ z₃ ≡ S n before
 
+  kept : {n : Nums k} {t : Outcome} {z₁ z₂ z₃ : List ℕ} → Says n t z₁ z₂ z₃ → back .Kept r (t .regs)
+  kept {n} e = subst (back .Kept r) (sym (ap (λ (g : Gives). g .heap .regs) e)) (keeps n before)
+
   abbrev Post : Val → SProp 𝓤
   Post = walkOf 𝓤 H A (ended k) (stayed k) (clauses k S 𝓤) .post ((κs, qs, bounds, a, values), tt)
 
@@ -211,9 +214,9 @@ module _ (k : ℕ) (S : Nums k → B.Heap → Gives) {M : Type 1} (𝓤 : URA M)
       owned ! N.the-row (Is N.the-row) (LL.makes N.the-type N′.the-plain 𝓤 H A) (t .answer) _ ga $ move ! (1 ∷ 0 ∷ []) $ done !
 
   module _ (f : Name) (C : Calls 𝓤 H) (Λ : Loops 𝓤 H) (fm : FmC 𝓤 H (W .laws) C) (known : Triple 𝓤 (C f) (Core k S 𝓤 H A)) where
-    walk : Room u32 (length (x₁ .now)) → Room u32 (length (x₂ .now)) → Room u8 (length (x₃ .now)) → ent 𝓤 (onEntry 𝓤 H A (signature k) κs qs a values) (WpFn 𝓤 H C Λ (function k f) (vptr b o ∷ s₁ ∷ s₂ ∷ s₃ ∷ ints 4 κs k ns) Post)
+    walk : Room u32 (length (x₁ .now)) → Room u32 (length (x₂ .now)) → Room u8 (length (x₃ .now)) → ent 𝓤 (onEntry 𝓤 H A (signature k) κs qs a values) (WpFn 𝓤 H C Λ (function k f back) (vptr b o ∷ s₁ ∷ s₂ ∷ s₃ ∷ ints 4 κs k ns) Post)
     walk room₁ room₂ room₃ =
-        qed W ((‵ (flft κ q) ⊛ ‵ (flft κ₁ q₁) ⊛ ‵ (flft κ₂ q₂) ⊛ ‵ (flft κ₃ q₃) ⊛ ‵ ftrue) ∷ ‵ (owns (MutRef (named 0) κ R ∷ MutSlice (named 1) κ₁ u32 ∷ MutSlice (named 2) κ₂ u32 ∷ MutSlice (named 3) κ₃ u8 ∷ typesAt (slots 4 k) κs) a values) ∷ []) ∵ enter ! C Λ (function k f) (vptr b o ∷ s₁ ∷ s₂ ∷ s₃ ∷ ints 4 κs k ns) _ $
+        qed W ((‵ (flft κ q) ⊛ ‵ (flft κ₁ q₁) ⊛ ‵ (flft κ₂ q₂) ⊛ ‵ (flft κ₃ q₃) ⊛ ‵ ftrue) ∷ ‵ (owns (MutRef (named 0) κ R ∷ MutSlice (named 1) κ₁ u32 ∷ MutSlice (named 2) κ₂ u32 ∷ MutSlice (named 3) κ₃ u8 ∷ typesAt (slots 4 k) κs) a values) ∷ []) ∵ enter ! C Λ (function k f back) (vptr b o ∷ s₁ ∷ s₂ ∷ s₃ ∷ ints 4 κs k ns) _ $
         alloc1 ! (λ l₀. alloc1 ! (λ l₁. alloc1 ! (λ l₂. alloc1 ! (λ l₃. alloc1 ! (λ l₄. allocs-nums ! k (λ bs. alloc1 ! (λ m₀. alloc1 ! (λ m₁. alloc1 ! (λ m₂. alloc1 ! (λ m₃. alloc1 ! (λ m₄. alloc1 ! (λ m₅. alloc1 ! (λ m₆. alloc1 ! (λ m₇.
         let D : List (Ty × ℕ) = (N′.mir, l₀) ∷ (tyRef (named 0) mut (pointee (T.the-row .written)), l₁) ∷ (sliceTy (tyRef (named 1) mut (tyInt w32)), l₂) ∷ (sliceTy (tyRef (named 2) mut (tyInt w32)), l₃) ∷ (sliceTy (tyRef (named 3) mut (tyInt w8)), l₄) ∷ [] in
         let E : List (Ty × ℕ) = (O′.mir, m₀) ∷ (T′.mir, m₁) ∷ (lent (tyInt w32), m₂) ∷ (sliceTy (lent (tyInt w32)), m₃) ∷ (lent (tyInt w32), m₄) ∷ (sliceTy (lent (tyInt w32)), m₅) ∷ (lent (tyInt w8), m₆) ∷ (sliceTy (lent (tyInt w8)), m₇) ∷ [] in
@@ -241,30 +244,31 @@ module _ (k : ℕ) (S : Nums k → B.Heap → Gives) {M : Type 1} (𝓤 : URA M)
         -- [bytes' last list; …; colours'; words'; the tokens and the result; the record's cell; what it owns; the open borrow; obs; auth; the numbers' cells; the last temporary; …; _0; …]
         move ! (4 ∷ []) $ split ! $ move ! (1 ∷ []) $ peeks ! O.the-row (Is O.the-row) (shows 𝓤 H A O.the-row) t (w ∷ []) (λ is.
         land ! (at-place ! (past k bs E 0 _) (stop !)) (init ! 26 refl (LL.lawful O.the-type O′.the-laws 𝓤 H A W .typed t _ is .0)) $ rewrite ! 26 (λ (u : Val). ‵ (fat fullShare O′.mir m₀ 0 u)) (ap only (LL.tells O.the-type O′.the-laws t _ is)) refl $
-        assigns ! (of-opd ! (load ! (at-place ! (past k bs E 0 _) (fld ! refl (stop !))) (look-in ! 26 (sub ! 0 refl (whole !))))) (from ! (hop ! (look ! 34 refl) (stop !))) (store-raw ! 6 refl (LL.lawful T.the-type T′.the-laws 𝓤 H A W .typed (t .regs) _ (LL.owed O.the-type O′.the-laws t _ is .0) .0)) $
+        move ! (6 ∷ 26 ∷ 34 ∷ []) $ back .writes ! refl (past k bs E 0 _) is (kept e) (
+        move ! (3 ∷ 4 ∷ 5 ∷ 6 ∷ 7 ∷ 8 ∷ 0 ∷ 9 ∷ 10 ∷ 11 ∷ 12 ∷ 13 ∷ 14 ∷ 15 ∷ 16 ∷ 17 ∷ 18 ∷ 19 ∷ 20 ∷ 21 ∷ 22 ∷ 23 ∷ 24 ∷ 25 ∷ 26 ∷ 27 ∷ 1 ∷ 28 ∷ 29 ∷ 30 ∷ 31 ∷ 32 ∷ 33 ∷ 34 ∷ 2 ∷ []) $
         assigns ! (of-opd ! (load ! (at-place ! (past k bs E 0 _) (fld ! refl (stop !))) (look-in ! 26 (sub ! 1 refl (whole !))))) (from ! (stop !)) (init ! 36 refl (LL.lawful N.the-type N′.the-laws 𝓤 H A W .typed (t .answer) _ (LL.owed O.the-type O′.the-laws t _ is .1 .0) .0)) $
         -- the record's borrow is closed at the new record
         owned ! R (Is R) (LL.makes T.the-type T′.the-plain 𝓤 H A) (t .regs) _ (LL.owed O.the-type O′.the-laws t _ is .0) $ move ! (7 ∷ 0 ∷ 9 ∷ 10 ∷ 11 ∷ []) $ closes ! tt R (t .regs) (mach (t .regs) ∷ []) b o $
         returns ! (look ! 35 refl) $ forget ! 35 refl $ move ! (35 ∷ 36 ∷ []) $ free1 ! $ forget ! 33 refl $ move ! (33 ∷ 34 ∷ []) $ free1 ! $ forget ! 31 refl $ move ! (31 ∷ 32 ∷ []) $ free1 ! $ forget ! 29 refl $ move ! (29 ∷ 30 ∷ []) $ free1 ! $ forget ! 27 refl $ move ! (27 ∷ 28 ∷ []) $ free1 ! $
         move ! (10 ∷ []) $ frees-nums ! k bs m (forget ! 24 refl $ move ! (24 ∷ 25 ∷ []) $ free1 ! $ forget ! 22 refl $ move ! (22 ∷ 23 ∷ []) $ free1 ! $ forget ! 20 refl $ move ! (20 ∷ 21 ∷ []) $ free1 ! $ forget ! 18 refl $ move ! (18 ∷ 19 ∷ []) $ free1 ! $ forget ! 16 refl $ move ! (16 ∷ 17 ∷ []) $ free1 ! $ forget ! 14 refl $ move ! (14 ∷ 15 ∷ []) $ free1 ! $ forget ! 12 refl $ move ! (12 ∷ 13 ∷ []) $ free1 ! $ forget ! 10 refl $ move ! (10 ∷ 11 ∷ []) $ free1 ! $ free0 ! $
-        keep ! (0 ∷ 1 ∷ 2 ∷ 4 ∷ 8 ∷ 7 ∷ 5 ∷ []) $ by ! (exits t (zs .1 .0) (zs .1 .1 .0) (zs .1 .1 .1 .0) (LL.owed O.the-type O′.the-laws t _ is .1 .0) e₁ e₂ e₃ (e ∙ ap (λ (n : Nums k). S n before) (read-write 3 (κs .1) k m)))))))))))))))))))))))))))))
+        keep ! (0 ∷ 1 ∷ 2 ∷ 4 ∷ 8 ∷ 7 ∷ 5 ∷ []) $ by ! (exits t (zs .1 .0) (zs .1 .1 .0) (zs .1 .1 .1 .0) (LL.owed O.the-type O′.the-laws t _ is .1 .0) e₁ e₂ e₃ (e ∙ ap (λ (n : Nums k). S n before) (read-write 3 (κs .1) k m))))))))))))))))))))))))))))))
 
 -- ---- the law
-module _ (k : ℕ) (S : Nums k → B.Heap → Gives) (f : Name) {M : Type 1} (𝓤 : URA M) (H : Heap 𝓤) where
-  walks : (A : Atoms 𝓤) (W : Given 𝓤 H A) (C : Calls 𝓤 H) (Λ : Loops 𝓤 H) → FmC 𝓤 H (W .laws) C → Triple 𝓤 (C f) (Core k S 𝓤 H A) → Walks 𝓤 H A (ended k) (stayed k) (WpFn 𝓤 H C Λ (function k f)) (clauses k S 𝓤)
-  walks A W C Λ fm known = walked 𝓤 H A (ended k) (stayed k) (clauses k S 𝓤) (WpFn 𝓤 H C Λ (function k f)) (λ κs. (ptr-vals, (slice-vals, (slice-vals, (slice-vals, Numbers.spells 4 κs k)))))
+module _ (k : ℕ) (S : Nums k → B.Heap → Gives) (back : Back k) (keeps : Keeps k S back) (f : Name) {M : Type 1} (𝓤 : URA M) (H : Heap 𝓤) where
+  walks : (A : Atoms 𝓤) (W : Given 𝓤 H A) (C : Calls 𝓤 H) (Λ : Loops 𝓤 H) → FmC 𝓤 H (W .laws) C → Triple 𝓤 (C f) (Core k S 𝓤 H A) → Walks 𝓤 H A (ended k) (stayed k) (WpFn 𝓤 H C Λ (function k f back)) (clauses k S 𝓤)
+  walks A W C Λ fm known = walked 𝓤 H A (ended k) (stayed k) (clauses k S 𝓤) (WpFn 𝓤 H C Λ (function k f back)) (λ κs. (ptr-vals, (slice-vals, (slice-vals, (slice-vals, Numbers.spells 4 κs k)))))
       (λ κs. (mut-tells (named 0) (κs .0) T.the-row, (mut-slice-tells (named 1) (κs .1 .0) u32, (mut-slice-tells (named 2) (κs .1 .1 .0) u32, (mut-slice-tells (named 3) (κs .1 .1 .1 .0) u8, Numbers.tells 4 κs k)))))
       (λ κs qs bounds a g are. via 𝓤 _ (fst∗ 𝓤 _ (emp 𝓤))
-      (walk k S 𝓤 H A W (κs .0) (κs .1 .0) (κs .1 .1 .0) (κs .1 .1 .1 .0) bounds (qs .0) (qs .1 .0) (qs .1 .1 .0) (qs .1 .1 .1 .0) (a .0 .ptr .0) (a .0 .ptr .1) (a .0 .name) (a .0 .now) (a .1 .0) (a .1 .1 .0) (a .1 .1 .1 .0) (a .1 .1 .1 .1) (Numbers.small 4 κs k (a .1 .1 .1 .1) (are .1 .1 .1 .1)) f C Λ fm known (are .1 .0 .0 .1) (are .1 .1 .0 .0 .1) (are .1 .1 .1 .0 .0 .1)))
+      (walk k S back keeps 𝓤 H A W (κs .0) (κs .1 .0) (κs .1 .1 .0) (κs .1 .1 .1 .0) bounds (qs .0) (qs .1 .0) (qs .1 .1 .0) (qs .1 .1 .1 .0) (a .0 .ptr .0) (a .0 .ptr .1) (a .0 .name) (a .0 .now) (a .1 .0) (a .1 .1 .0) (a .1 .1 .1 .0) (a .1 .1 .1 .1) (Numbers.small 4 κs k (a .1 .1 .1 .1) (are .1 .1 .1 .1)) f C Λ fm known (are .1 .0 .0 .1) (are .1 .1 .0 .0 .1) (are .1 .1 .1 .0 .0 .1)))
 
-  meets : (A : Atoms 𝓤) → Given 𝓤 H A → (𝓣 : Tables 𝓤 H) → Triple 𝓤 (𝓣 .C f) (Core k S 𝓤 H A) → Triple 𝓤 (WpFn 𝓤 H (𝓣 .C) (𝓣 .Λ) (function k f)) (Outer k S 𝓤 H A)
+  meets : (A : Atoms 𝓤) → Given 𝓤 H A → (𝓣 : Tables 𝓤 H) → Triple 𝓤 (𝓣 .C f) (Core k S 𝓤 H A) → Triple 𝓤 (WpFn 𝓤 H (𝓣 .C) (𝓣 .Λ) (function k f back)) (Outer k S 𝓤 H A)
   meets A W 𝓣 known =
       walk-meets 𝓤 H A (ended k) (stayed k) W (goes-ref 𝓤 H A W 4 0 tt (plain (λ _. T.the-row)), (goes-gave-slice 𝓤 H A W 4 1 tt (plain (λ _. u32)), (goes-gave-slice 𝓤 H A W 4 2 tt (plain (λ _. u32)), (goes-gave-slice 𝓤 H A W 4 3 tt (plain (λ _. u8)), Numbers.all-go 4 𝓤 H A W k)))) (clauses k S 𝓤)
-      (WpFn 𝓤 H (𝓣 .C) (𝓣 .Λ) (function k f)) (WpFn-mono 𝓤 H (W .laws) 𝓣 (function k f)) (walks A W (𝓣 .C) (𝓣 .Λ) (fmOf 𝓤 H (W .laws) 𝓣) known)
+      (WpFn 𝓤 H (𝓣 .C) (𝓣 .Λ) (function k f back)) (WpFn-mono 𝓤 H (W .laws) 𝓣 (function k f back)) (walks A W (𝓣 .C) (𝓣 .Λ) (fmOf 𝓤 H (W .laws) 𝓣) known)
 
-  pub lends : (𝓜 : Model 𝓤 H) (𝓖 : GhostRules 𝓤 H) (𝓡 : Running 𝓤 H 𝓜) (γ : Env) (name : Name) → Closed 𝓤 H (tables 𝓤 H 𝓜 𝓡 γ .C) (tables 𝓤 H 𝓜 𝓡 γ .Λ) name (function k f) → (core : Routine) → γ f ≡ core
+  pub lends : (𝓜 : Model 𝓤 H) (𝓖 : GhostRules 𝓤 H) (𝓡 : Running 𝓤 H 𝓜) (γ : Env) (name : Name) → Closed 𝓤 H (tables 𝓤 H 𝓜 𝓡 γ .C) (tables 𝓤 H 𝓜 𝓡 γ .Λ) name (function k f back) → (core : Routine) → γ f ≡ core
       → Triple 𝓤 (𝓡 .run core) (Core k S 𝓤 H (𝓖 .A)) → Triple 𝓤 (𝓡 .run (γ name)) (Outer k S 𝓤 H (𝓖 .A))
   unfolding tablesOf
   lends 𝓜 𝓖 𝓡 γ name closed core is met =
-      entered 𝓤 H (Outer k S 𝓤 H (𝓖 .A)) (tables 𝓤 H 𝓜 𝓡 γ .C) (tables 𝓤 H 𝓜 𝓡 γ .Λ) name (function k f) closed
+      entered 𝓤 H (Outer k S 𝓤 H (𝓖 .A)) (tables 𝓤 H 𝓜 𝓡 γ .C) (tables 𝓤 H 𝓜 𝓡 γ .Λ) name (function k f back) closed
       (meets (𝓖 .A) (givenOf 𝓤 H 𝓜 𝓖) (tablesOf 𝓤 H 𝓜 (tables 𝓤 H 𝓜 𝓡 γ)) (cited 𝓤 H (Core k S 𝓤 H (𝓖 .A)) 𝓜 𝓡 γ f core is met))

@@ -2,6 +2,7 @@
 use Rattle.blocks.specs.Format.{format}
 use Rattle.formatting.proofs.format.Symbol as core
 use Rattle.formatting.proofs.format.Met as core-thm
+use Rattle.lending.proofs.Back.{all}
 use Rattle.lending.proofs.Outer.{lends}
 use Rattle.dergamoyne.proofs.dergamoyne_format.Key.{name}
 use Rattle.dergamoyne.proofs.dergamoyne_format.Statement.{statement}
@@ -10,5 +11,5 @@ use Rattle.dergamoyne.proofs.dergamoyne_format.Code as code
 pub dergamoyne-format-spec : {M : Type 1} → statement M
 unfolding code.routine
 dergamoyne-format-spec 𝓤 H 𝓜 𝓖 𝓡 =
-    lends 2 (λ m. format (m .0) (m .1 .0)) core.name 𝓤 H 𝓜 𝓖 𝓡 code.env name (code.unfolded 𝓤 H 𝓜 𝓡)
+    lends 2 (λ m. format (m .0) (m .1 .0)) (all 2) (λ m h. tt) core.name 𝓤 H 𝓜 𝓖 𝓡 code.env name (code.unfolded 𝓤 H 𝓜 𝓡)
     core.routine code.calls-formatting·format (core-thm.met 𝓤 H 𝓜 𝓖 𝓡)

@@ -1,7 +1,10 @@
 -- `dergamoyne::dergamoyne_set_root` meets its contract: the law of the outer calls, over `storing::set_root`. Assumes nothing.
+use mathlib.Core.List.{[], _∷_}
 use Rattle.blocks.specs.Store.{setRoot}
+use Rattle.blocks.proofs.Storing.{root-keeps}
 use Rattle.storing.proofs.set_root.Symbol as core
 use Rattle.storing.proofs.set_root.Met as core-thm
+use Rattle.lending.proofs.Back.{grey, root, only}
 use Rattle.lending.proofs.Outer.{lends}
 use Rattle.dergamoyne.proofs.dergamoyne_set_root.Key.{name}
 use Rattle.dergamoyne.proofs.dergamoyne_set_root.Statement.{statement}
@@ -10,5 +13,5 @@ use Rattle.dergamoyne.proofs.dergamoyne_set_root.Code as code
 pub dergamoyne-set-root-spec : {M : Type 1} → statement M
 unfolding code.routine
 dergamoyne-set-root-spec 𝓤 H 𝓜 𝓖 𝓡 =
-    lends 1 (λ m. setRoot (m .0)) core.name 𝓤 H 𝓜 𝓖 𝓡 code.env name (code.unfolded 𝓤 H 𝓜 𝓡)
+    lends 1 (λ m. setRoot (m .0)) (only (grey ∷ root ∷ []) 1) (λ m h. root-keeps (m .0) h) core.name 𝓤 H 𝓜 𝓖 𝓡 code.env name (code.unfolded 𝓤 H 𝓜 𝓡)
     core.routine code.calls-storing·set-root (core-thm.met 𝓤 H 𝓜 𝓖 𝓡)

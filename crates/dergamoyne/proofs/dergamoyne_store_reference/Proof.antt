@@ -1,7 +1,10 @@
 -- `dergamoyne::dergamoyne_store_reference` meets its contract: the law of the outer calls, over `storing::store_reference`. Assumes nothing.
+use mathlib.Core.List.{[], _∷_}
 use Rattle.blocks.specs.Store.{storeReference}
+use Rattle.blocks.proofs.Storing.{reference-keeps}
 use Rattle.storing.proofs.store_reference.Symbol as core
 use Rattle.storing.proofs.store_reference.Met as core-thm
+use Rattle.lending.proofs.Back.{grey, only}
 use Rattle.lending.proofs.Outer.{lends}
 use Rattle.dergamoyne.proofs.dergamoyne_store_reference.Key.{name}
 use Rattle.dergamoyne.proofs.dergamoyne_store_reference.Statement.{statement}
@@ -10,5 +13,5 @@ use Rattle.dergamoyne.proofs.dergamoyne_store_reference.Code as code
 pub dergamoyne-store-reference-spec : {M : Type 1} → statement M
 unfolding code.routine
 dergamoyne-store-reference-spec 𝓤 H 𝓜 𝓖 𝓡 =
-    lends 3 (λ m. storeReference (m .0) (m .1 .0) (m .1 .1 .0)) core.name 𝓤 H 𝓜 𝓖 𝓡 code.env name (code.unfolded 𝓤 H 𝓜 𝓡)
+    lends 3 (λ m. storeReference (m .0) (m .1 .0) (m .1 .1 .0)) (only (grey ∷ []) 3) (λ m h. reference-keeps (m .1 .1 .0) h (m .0) (m .1 .0)) core.name 𝓤 H 𝓜 𝓖 𝓡 code.env name (code.unfolded 𝓤 H 𝓜 𝓡)
     core.routine code.calls-storing·store-reference (core-thm.met 𝓤 H 𝓜 𝓖 𝓡)

@@ -2,6 +2,7 @@
 use Rattle.blocks.specs.Work.{work}
 use Rattle.working.proofs.work.Symbol as core
 use Rattle.working.proofs.work.Met as core-thm
+use Rattle.lending.proofs.Back.{all}
 use Rattle.lending.proofs.Outer.{lends}
 use Rattle.dergamoyne.proofs.dergamoyne_work.Key.{name}
 use Rattle.dergamoyne.proofs.dergamoyne_work.Statement.{statement}
@@ -10,5 +11,5 @@ use Rattle.dergamoyne.proofs.dergamoyne_work.Code as code
 pub dergamoyne-work-spec : {M : Type 1} → statement M
 unfolding code.routine
 dergamoyne-work-spec 𝓤 H 𝓜 𝓖 𝓡 =
-    lends 1 (λ m. work (m .0)) core.name 𝓤 H 𝓜 𝓖 𝓡 code.env name (code.unfolded 𝓤 H 𝓜 𝓡)
+    lends 1 (λ m. work (m .0)) (all 1) (λ m h. tt) core.name 𝓤 H 𝓜 𝓖 𝓡 code.env name (code.unfolded 𝓤 H 𝓜 𝓡)
     core.routine code.calls-working·work (core-thm.met 𝓤 H 𝓜 𝓖 𝓡)
