@@ -2,46 +2,9 @@
 use blocks::Outcome;
 use blocks::Regs;
 ghost use mathlib.Core.Path.{_≡_};
-ghost use mathlib.Core.Logic.{_≢_};
-ghost use mathlib.Core.List.{List};
-ghost use Prim.Native.Nat.{ℕ, _*_, _≤_};
-ghost use lib.ListN.{length, set};
-ghost use Rattle.blocks.specs.WellFormed.{Block};
-ghost use Rattle.blocks.specs.Block.{place, setBit, clearBit};
 ghost use Rattle.blocks.specs.Heap.{heap};
 ghost use Rattle.blocks.specs.Answers.{given};
-ghost use Rattle.blocks.specs.Store.{barrier, putNumber, putReference, storeNumber, storeRefusal, storeReference, rootRefusal, setRoot};
-
-// The barrier: while marking, a white target is greyed, which is 0 or a block. Answers the registers afterwards.
-pub fn barrier(r: Regs, colours: &mut [u32], t: u32) -> Regs
-    requires { ⌜ (length (now colours) ≡ r .blocks) × (t ≢ 0 → Block (r .blocks) t) ⌝ }
-    ensures { λ s. ⌜ ((ws bs : List ℕ) → heap s ws (now (colours .exit)) bs ≡ barrier t (heap r ws (now (colours .entry)) bs)) ⌝ }
-{
-    let mut s = r;
-    if r.phase == 1 {
-        let head = colours::grey_white(r.grey, colours, t);
-        s.grey = head;
-    }
-    s
-}
-
-// Word w of the block b becomes the number v.
-pub fn put_number(words: &mut [u32], bytes: &mut [u8], b: u32, w: u32, v: u32)
-    requires { ⌜ (length (now words) ≡ 8 * length (now bytes)) × Block (length (now bytes)) b × (w ≤ 7) ⌝ }
-    ensures { λ _. ⌜ ((r : Regs) (cs : List ℕ) → heap r (now (words .exit)) cs (now (bytes .exit)) ≡ putNumber b w v (heap r (now (words .entry)) cs (now (bytes .entry)))) ⌝ }
-{
-    words[8 * (b as usize - 2) + w as usize] = v;
-    cells::clear_bit(bytes, b, w as usize);
-}
-
-// Word w of the block b becomes a reference to t, or the reference 0.
-pub fn put_reference(words: &mut [u32], bytes: &mut [u8], b: u32, w: u32, t: u32)
-    requires { ⌜ (length (now words) ≡ 8 * length (now bytes)) × Block (length (now bytes)) b × (w ≤ 7) ⌝ }
-    ensures { λ _. ⌜ ((r : Regs) (cs : List ℕ) → heap r (now (words .exit)) cs (now (bytes .exit)) ≡ putReference b w t (heap r (now (words .entry)) cs (now (bytes .entry)))) ⌝ }
-{
-    words[8 * (b as usize - 2) + w as usize] = t;
-    cells::set_bit(bytes, b, w as usize);
-}
+ghost use Rattle.blocks.specs.Store.{storeNumber, storeRefusal, storeReference, rootRefusal, setRoot};
 
 // Every refusal of Set root: 1, 2, 4, then 8 and 6.
 pub fn root_refusal(r: Regs, words: &[u32], colours: &[u32], bytes: &[u8], t: u32) -> u32
@@ -106,7 +69,7 @@ pub fn store_number(
     if n != 0 {
         return checks::refused(r, n);
     }
-    put_number(words, bytes, b, w, v);
+    putting::put_number(words, bytes, b, w, v);
     checks::done(r, 0)
 }
 
@@ -126,8 +89,8 @@ pub fn store_reference(
     if e != 0 {
         return checks::refused(r, e);
     }
-    let s = barrier(r, colours, t);
-    put_reference(words, bytes, b, w, t);
+    let s = putting::barrier(r, colours, t);
+    putting::put_reference(words, bytes, b, w, t);
     checks::done(s, 0)
 }
 
@@ -145,7 +108,7 @@ pub fn set_root(
     if e != 0 {
         return checks::refused(r, e);
     }
-    let mut s = barrier(r, colours, t);
+    let mut s = putting::barrier(r, colours, t);
     s.root = t;
     checks::done(s, 0)
 }

@@ -1,7 +1,6 @@
 -- `allocating::allocate` meets its contract: a law for each way out. Assumes nothing.
 use Rattle.blocks.proofs.Allocating.{holder-zero, damaged-ends, undamaged, allocate-refused, allocate-off, allocate-goes}
-use Rattle.blocks.proofs.Allocating.{holder-zero, damaged-ends, allocate-refused, allocate-off, allocate-goes}
-use mathlib.Core.Path.{sym, _∙_}
+use mathlib.Core.Path.{refl, sym, _∙_}
 use Rattle.blocks.proofs.Entering.{entry-ready}
 use Rattle.blocks.proofs.Kept.{ran-kept}
 use borrow.Author.Needs.{needs}
@@ -9,19 +8,19 @@ use Rattle.allocating.proofs.allocate.Statement.{statement}
 use Rattle.allocating.proofs.allocate.Tie as tie
 
 entry-requires : tie.Need-entry-requires
-entry-requires c κs = search needs
+entry-requires c κs = tt
 
 refused-requires : tie.Need-refused-requires
-refused-requires c κs = search needs
+refused-requires c κs = tt
 
 same-length : tie.Need-same-length
-same-length c = search needs
+same-length c = refl
 
 same-length-2 : tie.Need-same-length-2
-same-length-2 c = search needs
+same-length-2 c = refl
 
 same-length-3 : tie.Need-same-length-3
-same-length-3 c = search needs
+same-length-3 c = refl
 
 returns : tie.Need-returns
 returns c =
@@ -32,16 +31,16 @@ holder-place-requires : tie.Need-holder-place-requires
 holder-place-requires c κs = entry-ready _ (sym (c .before .entry .ensures) ∙ c .if1 .left) .most
 
 refused-requires-2 : tie.Need-refused-requires-2
-refused-requires-2 c κs = search needs
+refused-requires-2 c κs = tt
 
 same-length-4 : tie.Need-same-length-4
-same-length-4 c = search needs
+same-length-4 c = refl
 
 same-length-5 : tie.Need-same-length-5
-same-length-5 c = search needs
+same-length-5 c = refl
 
 same-length-6 : tie.Need-same-length-6
-same-length-6 c = search needs
+same-length-6 c = refl
 
 returns-2 : tie.Need-returns-2
 returns-2 c =
@@ -63,7 +62,7 @@ run-requires c κs =
     entry-ready _ (sym (c-entry .ensures) ∙ c-if1 .left)
 
 answered-requires : tie.Need-answered-requires
-answered-requires c κs = search needs
+answered-requires c κs = tt
 
 same-length-7 : tie.Need-same-length-7
 same-length-7 c = search needs

@@ -1,4 +1,5 @@
 -- `cells::clear` meets its contract. Assumes nothing.
+use mathlib.Core.Path.{refl}
 use native.Mathlib.Omega.{arith}
 use lib.ListN.{length-set}
 use Rattle.blocks.proofs.Bytes.{eight-stores}

@@ -1,4 +1,5 @@
 -- `cells::clear_bit` meets its contract. Assumes nothing.
+use mathlib.Core.Path.{refl}
 use Rattle.blocks.proofs.Bytes.{clear-fits, bit-cleared, bit-was-clear}
 use Rattle.blocks.proofs.Tests.{so}
 use Rattle.blocks.proofs.Bytes.{clear-fits, bit-cleared, bit-was-clear}

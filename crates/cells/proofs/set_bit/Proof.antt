@@ -1,4 +1,5 @@
 -- `cells::set_bit` meets its contract. Assumes nothing.
+use mathlib.Core.Path.{refl}
 use Rattle.blocks.proofs.Tests.{so}
 use Rattle.blocks.proofs.Bytes.{set-fits, bit-set, bit-was-set}
 use Prim.Native.Nat.{_-_}

@@ -6,7 +6,7 @@ use Rattle.checks.proofs.entry.Statement.{statement}
 use Rattle.checks.proofs.entry.Tie as tie
 
 fits-requires : tie.Need-fits-requires
-fits-requires c κs = search needs
+fits-requires c κs = tt
 
 legal-requires : tie.Need-legal-requires
 legal-requires c κs = fits-most _ _ _ _ _ (so (c .before .fits2 .ensures) (c .if1 .taken))

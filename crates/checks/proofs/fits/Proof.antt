@@ -7,10 +7,10 @@ use Rattle.checks.proofs.fits.Statement.{statement}
 use Rattle.checks.proofs.fits.Tie as tie
 
 lengths-fit-requires : tie.Need-lengths-fit-requires
-lengths-fit-requires c κs = search needs
+lengths-fit-requires c κs = tt
 
 numbers-fit-requires : tie.Need-numbers-fit-requires
-numbers-fit-requires c κs = search needs
+numbers-fit-requires c κs = tt
 
 returns : tie.Need-returns
 returns c = fits-lengths _ _ _ _ _ (so (c .before .before .lengths-fit .ensures) (c .before .if1 .taken)) (c .numbers-fit .ensures)

@@ -8,7 +8,7 @@ standing-of-requires : tie.Need-standing-of-requires
 standing-of-requires c κs = search needs
 
 refusal-of-requires : tie.Need-refusal-of-requires
-refusal-of-requires c κs = search needs
+refusal-of-requires c κs = tt
 
 returns : tie.Need-returns
 returns c = λ r ws bs m p q. holder-as _ _ _ _ (c .before .standing-of .ensures r ws bs m p q) (c .refusal-of .ensures)

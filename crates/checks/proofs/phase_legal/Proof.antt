@@ -5,7 +5,7 @@ use Rattle.checks.proofs.phase_legal.Statement.{statement}
 use Rattle.checks.proofs.phase_legal.Tie as tie
 
 idle-legal-requires : tie.Need-idle-legal-requires
-idle-legal-requires c κs = search needs
+idle-legal-requires c κs = tt
 
 marking-legal-requires : tie.Need-marking-legal-requires
 marking-legal-requires c κs = search needs

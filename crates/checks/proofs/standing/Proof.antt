@@ -11,7 +11,7 @@ enum-told : tie.Need-enum-told
 enum-told c = search needs
 
 doomed-white-requires : tie.Need-doomed-white-requires
-doomed-white-requires c κs = search needs
+doomed-white-requires c κs = tt
 
 enum-told-2 : tie.Need-enum-told-2
 enum-told-2 c = search needs

@@ -11,7 +11,7 @@ colour-requires : tie.Need-colour-requires
 colour-requires c κs = search needs
 
 standing-requires : tie.Need-standing-requires
-standing-requires c κs = search needs
+standing-requires c κs = tt
 
 returns : tie.Need-returns
 returns c = λ r ws bs m p q. standing-as _ _ _ _ _ (c .before .before .word-of .ensures) (rw m (c .before .colour .ensures)) (c .standing .ensures r p q)

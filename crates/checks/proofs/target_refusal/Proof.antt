@@ -12,7 +12,7 @@ standing-of-requires : tie.Need-standing-of-requires
 standing-of-requires c κs = (c .before .before .pre .0, none-or-block _ _ (c .before .before .pre .1) (c .if1 .left))
 
 refusal-of-requires : tie.Need-refusal-of-requires
-refusal-of-requires c κs = search needs
+refusal-of-requires c κs = tt
 
 returns-2 : tie.Need-returns-2
 returns-2 c = λ r ws bs m p q. target-as _ _ _ _ (c .before .before .if1 .left) (c .before .standing-of .ensures r ws bs m p q) (c .refusal-of .ensures)

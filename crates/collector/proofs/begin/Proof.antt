@@ -1,11 +1,12 @@
 -- `collector::begin` meets its contract. Assumes nothing.
+use mathlib.Core.Path.{refl}
 use Rattle.blocks.proofs.Sweeping.{begin-empty, begin-root}
 use borrow.Author.Needs.{needs}
 use Rattle.collector.proofs.begin.Statement.{statement}
 use Rattle.collector.proofs.begin.Tie as tie
 
 wrapping-add-u32-requires : tie.Need-wrapping-add-u32-requires
-wrapping-add-u32-requires c κs = search needs
+wrapping-add-u32-requires c κs = tt
 
 returns : tie.Need-returns
 returns c =

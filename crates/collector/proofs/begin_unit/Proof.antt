@@ -36,7 +36,7 @@ returns c =
     λ ws bs. unit-by (c-args .r) ws (c-args .colours .now) bs (c-pre .2) (met-idle (c-args .r) ws (c-args .colours .now) bs (c-pre .2) (c-word-met .ensures)) (c-step .ensures) (c-enum-told .given .1) (ap finish (c .before .before .begin .ensures _ _))
 
 same-length-2 : tie.Need-same-length-2
-same-length-2 c = search needs
+same-length-2 c = refl
 
 returns-2 : tie.Need-returns-2
 unfolding act ended

@@ -1,5 +1,5 @@
 -- `collector::stretch` meets its contract: the phase's own loop, or one unit. Assumes nothing.
-use mathlib.Core.Path.{_∙_, ap}
+use mathlib.Core.Path.{refl, _∙_, ap}
 use mathlib.Core.Logic.{_≢_}
 use native.Mathlib.Omega.{arith}
 use Rattle.blocks.specs.OneUnit.{finish, ended}
@@ -18,7 +18,7 @@ counted-requires : tie.Need-counted-requires
 counted-requires c κs = search needs
 
 turn-requires : tie.Need-turn-requires
-turn-requires c κs = search needs
+turn-requires c κs = tt
 
 counted-requires-2 : tie.Need-counted-requires-2
 counted-requires-2 c κs = search needs
@@ -51,13 +51,13 @@ returns-2 c =
     c .counted2 .ensures _ _ _ _ (c-pre .0) (ap finish (c .before .turn .ensures _ _ _) ∙ unit-turns (c-args .r) _ _ _ (c-match .keys2) (c .before .before .if1 .taken))
 
 same-length-2 : tie.Need-same-length-2
-same-length-2 c = search needs
+same-length-2 c = refl
 
 same-length-3 : tie.Need-same-length-3
 same-length-3 c = search needs
 
 same-length-4 : tie.Need-same-length-4
-same-length-4 c = search needs
+same-length-4 c = refl
 
 returns-3 : tie.Need-returns-3
 returns-3 c = c .before .before .marks .ensures

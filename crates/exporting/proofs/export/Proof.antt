@@ -19,7 +19,7 @@ abbrev μ-loop : tie.MeasureT-loop
 μ-loop r words colours bytes out₀ start link e b₀ n₀ out b n = r .blocks - n
 
 entry-requires : tie.Need-entry-requires Inv-loop μ-loop
-entry-requires c κs = search needs
+entry-requires c κs = tt
 
 loop-holds : tie.Need-loop-holds Inv-loop μ-loop
 loop-holds c = (omega arith, refl, export-whole _ _ _ _)

@@ -14,25 +14,25 @@ enum-told : tie.Need-enum-told
 enum-told c = search needs
 
 stopped-requires : tie.Need-stopped-requires
-stopped-requires c κs = search needs
+stopped-requires c κs = tt
 
 enum-told-2 : tie.Need-enum-told-2
 enum-told-2 c = search needs
 
 stopped-requires-2 : tie.Need-stopped-requires-2
-stopped-requires-2 c κs = search needs
+stopped-requires-2 c κs = tt
 
 enum-known-reason : tie.Need-enum-known-reason
 enum-known-reason c = search needs
 
 stopped-requires-3 : tie.Need-stopped-requires-3
-stopped-requires-3 c κs = search needs
+stopped-requires-3 c κs = tt
 
 enum-told-3 : tie.Need-enum-told-3
 enum-told-3 c = search needs
 
 stopped-requires-4 : tie.Need-stopped-requires-4
-stopped-requires-4 c κs = search needs
+stopped-requires-4 c κs = tt
 
 returns : tie.Need-returns
 returns c = rw (c .before .x .given .1) refl

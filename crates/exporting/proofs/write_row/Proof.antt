@@ -1,4 +1,5 @@
 -- `exporting::write_row` meets its contract. Assumes nothing.
+use mathlib.Core.Path.{refl}
 use Rattle.exporting.proofs.Rows.{row-back}
 use borrow.Author.Needs.{needs}
 use Rattle.exporting.proofs.write_row.Statement.{statement}

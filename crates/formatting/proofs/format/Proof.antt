@@ -1,5 +1,5 @@
 -- `formatting::format` meets its contract: a law for each way out. Assumes nothing.
-use mathlib.Core.Path.{_∙_}
+use mathlib.Core.Path.{refl, _∙_}
 use Rattle.blocks.proofs.Tests.{so}
 use Rattle.blocks.proofs.Formats.{fits-parts, format-done, format-not}
 use borrow.Author.Needs.{needs}
@@ -8,7 +8,7 @@ use Rattle.formatting.proofs.format.Tie as tie
 use Rattle.colours.proofs.fresh.Reads as fresh-reads′
 
 fits-requires : tie.Need-fits-requires
-fits-requires c κs = search needs
+fits-requires c κs = tt
 
 link-all-requires : tie.Need-link-all-requires
 link-all-requires c κs =
@@ -16,16 +16,16 @@ link-all-requires c κs =
     let p = fits-parts _ _ _ _ _ (so (c-fits2 .ensures) (c .before .if1 .taken)) in (p .0, p .1, p .2)
 
 fresh-requires : tie.Need-fresh-requires
-fresh-requires c κs = search needs
+fresh-requires c κs = tt
 
 fresh-requires-2 : tie.Need-fresh-requires-2
-fresh-requires-2 c κs = search needs
+fresh-requires-2 c κs = tt
 
 fresh-regs-requires : tie.Need-fresh-regs-requires
-fresh-regs-requires c κs = search needs
+fresh-regs-requires c κs = tt
 
 done-requires : tie.Need-done-requires
-done-requires c κs = search needs
+done-requires c κs = tt
 
 same-length : tie.Need-same-length
 same-length c = search needs
@@ -46,7 +46,7 @@ returns c =
     c .done .ensures _ _ _ ∙ format-done _ _ _ _ _ _ _ (so (c-fits2 .ensures) (c-if1 .taken)) (c .before .fresh-regs .ensures) (c-link-all .ensures) (c-fresh .ensures) (c-fresh2 .ensures)
 
 refused-requires : tie.Need-refused-requires
-refused-requires c κs = search needs
+refused-requires c κs = tt
 
 returns-2 : tie.Need-returns-2
 returns-2 c =

@@ -15,7 +15,7 @@ loop-holds : tie.Need-loop-holds Inv-loop μ-loop
 loop-holds c = search needs
 
 allocate-requires : tie.Need-allocate-requires Inv-loop μ-loop
-allocate-requires c κs = search needs
+allocate-requires c κs = tt
 
 add-b : tie.Need-add-b Inv-loop μ-loop
 add-b c = search needs

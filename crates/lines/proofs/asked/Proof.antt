@@ -5,25 +5,25 @@ use Rattle.lines.proofs.asked.Statement.{statement}
 use Rattle.lines.proofs.asked.Tie as tie
 
 with-none-requires : tie.Need-with-none-requires
-with-none-requires c κs = search needs
+with-none-requires c κs = tt
 
 returns : tie.Need-returns
 returns c = λ vs e. meant-0 _ _ _ vs e (c .before .if1 .taken) (c .with-none .ensures)
 
 with-one-requires : tie.Need-with-one-requires
-with-one-requires c κs = search needs
+with-one-requires c κs = tt
 
 returns-2 : tie.Need-returns-2
 returns-2 c = λ vs e. meant-1 _ _ _ vs e (c .before .if2 .taken) (c .with-one .ensures)
 
 with-two-requires : tie.Need-with-two-requires
-with-two-requires c κs = search needs
+with-two-requires c κs = tt
 
 returns-3 : tie.Need-returns-3
 returns-3 c = λ vs e. meant-2 _ _ _ vs e (c .before .if3 .taken) (c .with-two .ensures)
 
 with-three-requires : tie.Need-with-three-requires
-with-three-requires c κs = search needs
+with-three-requires c κs = tt
 
 returns-4 : tie.Need-returns-4
 returns-4 c = λ vs e. meant-3 _ _ _ vs e (c .before .if4 .taken) (c .with-three .ensures)

@@ -20,7 +20,7 @@ add-t7 : tie.Need-add-t7 Inv-loop μ-loop
 add-t7 c = search needs
 
 number-at-requires : tie.Need-number-at-requires Inv-loop μ-loop
-number-at-requires c κs = search needs
+number-at-requires c κs = tt
 
 enum-known-v : tie.Need-enum-known-v Inv-loop μ-loop
 enum-known-v c = search needs
@@ -36,7 +36,7 @@ returns c =
     gather-off (c-args .text .now) _ (c-loop .at) _ (c-loop .inv) (search needs) (c-number-at .ensures) (c .enum-told .given .1)
 
 with-next-requires : tie.Need-with-next-requires Inv-loop μ-loop
-with-next-requires c κs = search needs
+with-next-requires c κs = tt
 
 loop-less : tie.Need-loop-less Inv-loop μ-loop
 loop-less c =

@@ -1,5 +1,5 @@
 -- `lines::perform` meets its contract: what each call gives, as it is said. Assumes nothing.
-use mathlib.Core.Path.{ap}
+use mathlib.Core.Path.{refl, ap}
 use Rattle.lines.specs.Line.{said, performed}
 use Rattle.lines.proofs.Lending.{asks}
 use borrow.Author.Needs.{needs}
@@ -10,79 +10,79 @@ enum-known-c : tie.Need-enum-known-c
 enum-known-c c = search needs
 
 format-requires : tie.Need-format-requires
-format-requires c κs = search needs
+format-requires c κs = tt
 
 told-requires : tie.Need-told-requires
-told-requires c κs = search needs
+told-requires c κs = tt
 
 enum-known-c-2 : tie.Need-enum-known-c-2
 enum-known-c-2 c = search needs
 
 read-requires : tie.Need-read-requires
-read-requires c κs = search needs
+read-requires c κs = tt
 
 told-read-requires : tie.Need-told-read-requires
-told-read-requires c κs = search needs
+told-read-requires c κs = tt
 
 enum-known-c-3 : tie.Need-enum-known-c-3
 enum-known-c-3 c = search needs
 
 store-number-requires : tie.Need-store-number-requires
-store-number-requires c κs = search needs
+store-number-requires c κs = tt
 
 told-requires-2 : tie.Need-told-requires-2
-told-requires-2 c κs = search needs
+told-requires-2 c κs = tt
 
 enum-known-c-4 : tie.Need-enum-known-c-4
 enum-known-c-4 c = search needs
 
 store-reference-requires : tie.Need-store-reference-requires
-store-reference-requires c κs = search needs
+store-reference-requires c κs = tt
 
 told-requires-3 : tie.Need-told-requires-3
-told-requires-3 c κs = search needs
+told-requires-3 c κs = tt
 
 enum-known-c-5 : tie.Need-enum-known-c-5
 enum-known-c-5 c = search needs
 
 set-root-requires : tie.Need-set-root-requires
-set-root-requires c κs = search needs
+set-root-requires c κs = tt
 
 told-requires-4 : tie.Need-told-requires-4
-told-requires-4 c κs = search needs
+told-requires-4 c κs = tt
 
 enum-known-c-6 : tie.Need-enum-known-c-6
 enum-known-c-6 c = search needs
 
 allocate-requires : tie.Need-allocate-requires
-allocate-requires c κs = search needs
+allocate-requires c κs = tt
 
 told-requires-5 : tie.Need-told-requires-5
-told-requires-5 c κs = search needs
+told-requires-5 c κs = tt
 
 enum-known-c-7 : tie.Need-enum-known-c-7
 enum-known-c-7 c = search needs
 
 work-requires : tie.Need-work-requires
-work-requires c κs = search needs
+work-requires c κs = tt
 
 told-requires-6 : tie.Need-told-requires-6
-told-requires-6 c κs = search needs
+told-requires-6 c κs = tt
 
 enum-told : tie.Need-enum-told
 enum-told c = search needs
 
 audit-requires : tie.Need-audit-requires
-audit-requires c κs = search needs
+audit-requires c κs = tt
 
 told-audit-requires : tie.Need-told-audit-requires
-told-audit-requires c κs = search needs
+told-audit-requires c κs = tt
 
 enum-told-2 : tie.Need-enum-told-2
 enum-told-2 c = search needs
 
 told-broken-requires : tie.Need-told-broken-requires
-told-broken-requires c κs = search needs
+told-broken-requires c κs = tt
 
 same-length : tie.Need-same-length
 same-length c = search needs
@@ -101,13 +101,13 @@ returns c =
     asks _ (c-c .given .1) (c .told .ensures _ _ _ _ (c-format .ensures))
 
 same-length-4 : tie.Need-same-length-4
-same-length-4 c = search needs
+same-length-4 c = refl
 
 same-length-5 : tie.Need-same-length-5
-same-length-5 c = search needs
+same-length-5 c = refl
 
 same-length-6 : tie.Need-same-length-6
-same-length-6 c = search needs
+same-length-6 c = refl
 
 returns-2 : tie.Need-returns-2
 unfolding performed
@@ -196,13 +196,13 @@ returns-7 c =
     asks _ (c-c7 .given .1) (c .told6 .ensures _ _ _ _ (c-work .ensures))
 
 same-length-22 : tie.Need-same-length-22
-same-length-22 c = search needs
+same-length-22 c = refl
 
 same-length-23 : tie.Need-same-length-23
-same-length-23 c = search needs
+same-length-23 c = refl
 
 same-length-24 : tie.Need-same-length-24
-same-length-24 c = search needs
+same-length-24 c = refl
 
 returns-8 : tie.Need-returns-8
 unfolding performed

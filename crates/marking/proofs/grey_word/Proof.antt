@@ -1,5 +1,5 @@
 -- `marking::grey_word` meets its contract. Assumes nothing.
-use mathlib.Core.Path.{_∙_, sym}
+use mathlib.Core.Path.{refl, _∙_, sym}
 use borrow.Author.Tests.{eq-eqb, ne-eqb}
 use Rattle.blocks.proofs.Tests.{if-true, if-false}
 use borrow.Author.Needs.{needs}

@@ -38,7 +38,7 @@ returns c =
     unit-by (c-args .r) (c-args .words .now) (c-args .colours .now) (c-args .bytes .now) (c-pre .1) (met-marking (c-args .r) (c-args .words .now) (c-args .colours .now) (c-args .bytes .now) (c-pre .1) (marks-block _ (c-pre .0) (c-pre .2)) (c-word-of .ensures)) (c-step .ensures) (c-enum-told .given .1) (c .before .before .mark .ensures)
 
 same-length-2 : tie.Need-same-length-2
-same-length-2 c = search needs
+same-length-2 c = refl
 
 returns-2 : tie.Need-returns-2
 unfolding act ended

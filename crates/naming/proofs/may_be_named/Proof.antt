@@ -6,13 +6,13 @@ use Rattle.naming.proofs.may_be_named.Statement.{statement}
 use Rattle.naming.proofs.may_be_named.Tie as tie
 
 standing-requires : tie.Need-standing-requires
-standing-requires c κs = search needs
+standing-requires c κs = tt
 
 is-live-requires : tie.Need-is-live-requires
-is-live-requires c κs = search needs
+is-live-requires c κs = tt
 
 not-white-requires : tie.Need-not-white-requires
-not-white-requires c κs = search needs
+not-white-requires c κs = tt
 
 returns : tie.Need-returns
 returns c =

@@ -21,7 +21,7 @@ colour-requires : tie.Need-colour-requires
 colour-requires c κs = search needs
 
 may-be-named-requires : tie.Need-may-be-named-requires
-may-be-named-requires c κs = search needs
+may-be-named-requires c κs = tt
 
 returns-2 : tie.Need-returns-2
 returns-2 c =

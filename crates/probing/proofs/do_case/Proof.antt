@@ -1,13 +1,13 @@
 -- `probing::do_case` meets its contract: the parts that are lent. Assumes nothing.
 use native.Mathlib.Omega.{arith}
 use borrow.Author.Needs.{needs}
-use mathlib.Core.Path.{sym}
+use mathlib.Core.Path.{refl, sym}
 use lib.Seq.{length-take-le}
 use Rattle.probing.proofs.do_case.Statement.{statement}
 use Rattle.probing.proofs.do_case.Tie as tie
 
 read-head-requires : tie.Need-read-head-requires
-read-head-requires c κs = search needs
+read-head-requires c κs = tt
 
 enum-known-h : tie.Need-enum-known-h
 enum-known-h c = search needs
@@ -16,7 +16,7 @@ enum-told : tie.Need-enum-told
 enum-told c = search needs
 
 put-broken-requires : tie.Need-put-broken-requires
-put-broken-requires c κs = search needs
+put-broken-requires c κs = tt
 
 same-length : tie.Need-same-length
 same-length c = search needs
@@ -28,7 +28,7 @@ returns : tie.Need-returns
 returns c = search needs
 
 put-broken-requires-2 : tie.Need-put-broken-requires-2
-put-broken-requires-2 c κs = search needs
+put-broken-requires-2 c κs = tt
 
 same-length-3 : tie.Need-same-length-3
 same-length-3 c = search needs
@@ -40,7 +40,7 @@ returns-2 : tie.Need-returns-2
 returns-2 c = search needs
 
 put-broken-requires-3 : tie.Need-put-broken-requires-3
-put-broken-requires-3 c κs = search needs
+put-broken-requires-3 c κs = tt
 
 same-length-5 : tie.Need-same-length-5
 same-length-5 c = search needs
@@ -52,7 +52,7 @@ returns-3 : tie.Need-returns-3
 returns-3 c = search needs
 
 put-broken-requires-4 : tie.Need-put-broken-requires-4
-put-broken-requires-4 c κs = search needs
+put-broken-requires-4 c κs = tt
 
 same-length-7 : tie.Need-same-length-7
 same-length-7 c = search needs

@@ -9,7 +9,7 @@ returns : tie.Need-returns
 returns c = no-pace _ _ _ (c .if1 .taken)
 
 most-in-a-cycle-requires : tie.Need-most-in-a-cycle-requires
-most-in-a-cycle-requires c κs = search needs
+most-in-a-cycle-requires c κs = tt
 
 mul-result : tie.Need-mul-result
 mul-result c =

@@ -9,7 +9,7 @@ use Rattle.storing.proofs.root_refusal.Statement.{statement}
 use Rattle.storing.proofs.root_refusal.Tie as tie
 
 entry-requires : tie.Need-entry-requires
-entry-requires c κs = search needs
+entry-requires c κs = tt
 
 returns : tie.Need-returns
 unfolding rootRefusal

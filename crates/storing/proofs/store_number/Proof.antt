@@ -1,4 +1,5 @@
 -- `storing::store_number` meets its contract: refused, or the word and its bit written. Assumes nothing.
+use mathlib.Core.Path.{refl}
 use Rattle.blocks.proofs.Tests.{so}
 use Rattle.blocks.proofs.Refusals.{readable}
 use Rattle.blocks.proofs.Storing.{number-refused, number-stored, word-writable}
@@ -7,22 +8,22 @@ use Rattle.storing.proofs.store_number.Statement.{statement}
 use Rattle.storing.proofs.store_number.Tie as tie
 
 entry-requires : tie.Need-entry-requires
-entry-requires c κs = search needs
+entry-requires c κs = tt
 
 read-refusal-after-requires : tie.Need-read-refusal-after-requires
 read-refusal-after-requires c κs = c .before .before .before .entry .ensures
 
 refused-requires : tie.Need-refused-requires
-refused-requires c κs = search needs
+refused-requires c κs = tt
 
 same-length : tie.Need-same-length
-same-length c = search needs
+same-length c = refl
 
 same-length-2 : tie.Need-same-length-2
-same-length-2 c = search needs
+same-length-2 c = refl
 
 same-length-3 : tie.Need-same-length-3
-same-length-3 c = search needs
+same-length-3 c = refl
 
 returns : tie.Need-returns
 returns c = number-refused _ _ _ _ (c .before .before .read-refusal-after .ensures) (c .before .if1 .taken) (c .refused .ensures _ _ _)
@@ -31,13 +32,13 @@ put-number-requires : tie.Need-put-number-requires
 put-number-requires c κs = word-writable (readable _ _ _ (so (c .before .before .before .read-refusal-after .ensures) (c .before .before .if1 .left)))
 
 done-requires : tie.Need-done-requires
-done-requires c κs = search needs
+done-requires c κs = tt
 
 same-length-4 : tie.Need-same-length-4
 same-length-4 c = search needs
 
 same-length-5 : tie.Need-same-length-5
-same-length-5 c = search needs
+same-length-5 c = refl
 
 same-length-6 : tie.Need-same-length-6
 same-length-6 c = search needs

@@ -1,4 +1,5 @@
 -- `storing::store_reference` meets its contract: refused, or the barrier and then the word and its bit written. Assumes nothing.
+use mathlib.Core.Path.{refl}
 use Rattle.blocks.proofs.Tests.{so}
 use Rattle.blocks.proofs.Storing.{reference-refused, reference-stored, storable, store-named, word-writable}
 use borrow.Author.Needs.{needs}
@@ -6,19 +7,19 @@ use Rattle.storing.proofs.store_reference.Statement.{statement}
 use Rattle.storing.proofs.store_reference.Tie as tie
 
 store-refusal-requires : tie.Need-store-refusal-requires
-store-refusal-requires c κs = search needs
+store-refusal-requires c κs = tt
 
 refused-requires : tie.Need-refused-requires
-refused-requires c κs = search needs
+refused-requires c κs = tt
 
 same-length : tie.Need-same-length
-same-length c = search needs
+same-length c = refl
 
 same-length-2 : tie.Need-same-length-2
-same-length-2 c = search needs
+same-length-2 c = refl
 
 same-length-3 : tie.Need-same-length-3
-same-length-3 c = search needs
+same-length-3 c = refl
 
 returns : tie.Need-returns
 returns c =
@@ -37,7 +38,7 @@ put-reference-requires c κs =
     word-writable (storable _ _ _ _ (so (c-store-refusal .ensures) (c-if1 .left)))
 
 done-requires : tie.Need-done-requires
-done-requires c κs = search needs
+done-requires c κs = tt
 
 same-length-4 : tie.Need-same-length-4
 same-length-4 c = search needs

@@ -10,7 +10,7 @@ use Rattle.storing.proofs.store_refusal.Statement.{statement}
 use Rattle.storing.proofs.store_refusal.Tie as tie
 
 entry-requires : tie.Need-entry-requires
-entry-requires c κs = search needs
+entry-requires c κs = tt
 
 returns : tie.Need-returns
 unfolding storeRefusal

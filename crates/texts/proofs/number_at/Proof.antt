@@ -53,7 +53,7 @@ mul-more : tie.Need-mul-more Inv-loop μ-loop
 mul-more c = search needs
 
 wide-requires : tie.Need-wide-requires Inv-loop μ-loop
-wide-requires c κs = search needs
+wide-requires c κs = tt
 
 add-more : tie.Need-add-more Inv-loop μ-loop
 add-more c = search needs

@@ -18,7 +18,7 @@ colour-requires : tie.Need-colour-requires
 colour-requires c κs = search needs
 
 free-colour-requires : tie.Need-free-colour-requires
-free-colour-requires c κs = search needs
+free-colour-requires c κs = tt
 
 returns : tie.Need-returns
 returns c =

@@ -18,13 +18,13 @@ loop-holds : tie.Need-loop-holds Inv-loop μ-loop
 loop-holds c = search needs
 
 number-requires : tie.Need-number-requires Inv-loop μ-loop
-number-requires c κs = search needs
+number-requires c κs = tt
 
 cast-put : tie.Need-cast-put Inv-loop μ-loop
 cast-put c = search needs
 
 put-requires : tie.Need-put-requires Inv-loop μ-loop
-put-requires c κs = search needs
+put-requires c κs = tt
 
 add-i : tie.Need-add-i Inv-loop μ-loop
 add-i c = search needs
@@ -36,13 +36,13 @@ loop-again : tie.Need-loop-again Inv-loop μ-loop
 loop-again c = search needs
 
 number-requires-2 : tie.Need-number-requires-2 Inv-loop μ-loop
-number-requires-2 c κs = search needs
+number-requires-2 c κs = tt
 
 cast-put-2 : tie.Need-cast-put-2 Inv-loop μ-loop
 cast-put-2 c = search needs
 
 put-requires-2 : tie.Need-put-requires-2 Inv-loop μ-loop
-put-requires-2 c κs = search needs
+put-requires-2 c κs = tt
 
 returns : tie.Need-returns Inv-loop μ-loop
 returns c = search needs

@@ -1,4 +1,5 @@
 -- `streams::cutting::keep` meets its contract: a byte more, or no room for it. Assumes nothing.
+use mathlib.Core.Path.{refl}
 use native.Mathlib.Omega.{arith}
 use Rattle.streams.proofs.Cuts.{keep-on, keep-off}
 use borrow.Author.Needs.{needs}

@@ -8,7 +8,7 @@ use Rattle.streams.proofs.input.after_read.Statement.{statement}
 use Rattle.streams.proofs.input.after_read.Tie as tie
 
 say-unread-requires : tie.Need-say-unread-requires
-say-unread-requires c κs = search needs
+say-unread-requires c κs = tt
 
 returns : tie.Need-returns
 unfolding readGives

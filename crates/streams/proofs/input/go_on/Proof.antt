@@ -1,7 +1,7 @@
 -- `streams::input::go_on` meets its contract: the part that is cut. Assumes nothing.
 use native.Mathlib.Omega.{arith}
 use lib.Seq.{length-take-le}
-use mathlib.Core.Path.{sym}
+use mathlib.Core.Path.{refl, sym}
 use borrow.Author.Needs.{needs}
 use Rattle.streams.proofs.input.go_on.Statement.{statement}
 use Rattle.streams.proofs.input.go_on.Tie as tie

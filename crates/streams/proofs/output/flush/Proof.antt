@@ -5,19 +5,19 @@ use Rattle.streams.proofs.output.flush.Statement.{statement}
 use Rattle.streams.proofs.output.flush.Tie as tie
 
 start-of-requires : tie.Need-start-of-requires
-start-of-requires c κs = search needs
+start-of-requires c κs = tt
 
 write-all-requires : tie.Need-write-all-requires
-write-all-requires c κs = search needs
+write-all-requires c κs = tt
 
 empty-requires : tie.Need-empty-requires
-empty-requires c κs = search needs
+empty-requires c κs = tt
 
 returns : tie.Need-returns
 returns c = record { none = c .empty .ensures .0; ill = λ e. cc }
 
 say-unwritten-requires : tie.Need-say-unwritten-requires
-say-unwritten-requires c κs = search needs
+say-unwritten-requires c κs = tt
 
 returns-2 : tie.Need-returns-2
 returns-2 c = search needs

@@ -5,7 +5,7 @@ use Rattle.streams.proofs.output.put.Statement.{statement}
 use Rattle.streams.proofs.output.put.Tie as tie
 
 room-requires : tie.Need-room-requires
-room-requires c κs = search needs
+room-requires c κs = tt
 
 spell-requires : tie.Need-spell-requires
 spell-requires c κs = search needs

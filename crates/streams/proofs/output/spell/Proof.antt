@@ -8,7 +8,7 @@ use Rattle.streams.proofs.output.spell.Statement.{statement}
 use Rattle.streams.proofs.output.spell.Tie as tie
 
 decimal-requires : tie.Need-decimal-requires
-decimal-requires c κs = search needs
+decimal-requires c κs = tt
 
 array-share-prefix-text : tie.Need-array-share-prefix-text
 array-share-prefix-text c = search needs

@@ -1,8 +1,9 @@
--- `storing::put_reference` meets its contract. Assumes nothing.
+-- `putting::put_reference` meets its contract. Assumes nothing.
+use mathlib.Core.Path.{refl}
 use Rattle.blocks.proofs.Storing.{reference-put}
 use borrow.Author.Needs.{needs}
-use Rattle.storing.proofs.put_reference.Statement.{statement}
-use Rattle.storing.proofs.put_reference.Tie as tie
+use Rattle.putting.proofs.put_reference.Statement.{statement}
+use Rattle.putting.proofs.put_reference.Tie as tie
 
 sub-words : tie.Need-sub-words
 sub-words c = search needs

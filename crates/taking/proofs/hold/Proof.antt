@@ -1,8 +1,9 @@
--- `allocating::hold` meets its contract. Assumes nothing.
+-- `taking::hold` meets its contract. Assumes nothing.
+use mathlib.Core.Path.{refl}
 use Rattle.blocks.proofs.Allocating.{held-root, held-word}
 use borrow.Author.Needs.{needs}
-use Rattle.allocating.proofs.hold.Statement.{statement}
-use Rattle.allocating.proofs.hold.Tie as tie
+use Rattle.taking.proofs.hold.Statement.{statement}
+use Rattle.taking.proofs.hold.Tie as tie
 
 returns : tie.Need-returns
 returns c = λ cs. held-root _ _ _ _ (c .if1 .taken)

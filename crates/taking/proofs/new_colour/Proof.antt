@@ -1,7 +1,7 @@
--- `allocating::new_colour` meets its contract. Assumes nothing.
+-- `taking::new_colour` meets its contract. Assumes nothing.
 use Rattle.blocks.proofs.Allocating.{new-marking, new-ahead, new-behind, new-idle}
-use Rattle.allocating.proofs.new_colour.Statement.{statement}
-use Rattle.allocating.proofs.new_colour.Tie as tie
+use Rattle.taking.proofs.new_colour.Statement.{statement}
+use Rattle.taking.proofs.new_colour.Tie as tie
 
 returns : tie.Need-returns
 returns c = new-marking _ _ (c .if1 .taken)

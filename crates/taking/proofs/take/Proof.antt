@@ -1,9 +1,9 @@
--- `allocating::take` meets its contract. Assumes nothing.
+-- `taking::take` meets its contract. Assumes nothing.
 use Rattle.blocks.proofs.Allocating.{taken-as}
 use mathlib.Core.Path.{refl}
 use borrow.Author.Needs.{needs}
-use Rattle.allocating.proofs.take.Statement.{statement}
-use Rattle.allocating.proofs.take.Tie as tie
+use Rattle.taking.proofs.take.Statement.{statement}
+use Rattle.taking.proofs.take.Tie as tie
 
 cast-at : tie.Need-cast-at
 cast-at c = search needs
@@ -30,7 +30,7 @@ slice-write-words : tie.Need-slice-write-words
 slice-write-words c = search needs
 
 new-colour-requires : tie.Need-new-colour-requires
-new-colour-requires c κs = search needs
+new-colour-requires c κs = tt
 
 paint-requires : tie.Need-paint-requires
 paint-requires c κs = search needs

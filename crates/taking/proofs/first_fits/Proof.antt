@@ -1,9 +1,9 @@
--- `allocating::first_fits` meets its contract. Assumes nothing.
+-- `taking::first_fits` meets its contract. Assumes nothing.
 use Rattle.blocks.proofs.Allocating.{first-link, first-not-free}
 use mathlib.Core.Path.{refl}
 use borrow.Author.Needs.{needs}
-use Rattle.allocating.proofs.first_fits.Statement.{statement}
-use Rattle.allocating.proofs.first_fits.Tie as tie
+use Rattle.taking.proofs.first_fits.Statement.{statement}
+use Rattle.taking.proofs.first_fits.Tie as tie
 
 word-of-requires : tie.Need-word-of-requires
 word-of-requires c κs = search needs
@@ -12,7 +12,7 @@ colour-requires : tie.Need-colour-requires
 colour-requires c κs = search needs
 
 free-colour-requires : tie.Need-free-colour-requires
-free-colour-requires c κs = search needs
+free-colour-requires c κs = tt
 
 cast-is-block-or-none : tie.Need-cast-is-block-or-none
 cast-is-block-or-none c = search needs

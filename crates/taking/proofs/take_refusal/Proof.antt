@@ -1,9 +1,9 @@
--- `allocating::take_refusal` meets its contract. Assumes nothing.
+-- `taking::take_refusal` meets its contract. Assumes nothing.
 use mathlib.Core.Path.{refl}
 use Rattle.blocks.proofs.Allocating.{take-none, take-stops, take-passes}
 use Rattle.blocks.proofs.Blocks.{block-as}
-use Rattle.allocating.proofs.take_refusal.Statement.{statement}
-use Rattle.allocating.proofs.take_refusal.Tie as tie
+use Rattle.taking.proofs.take_refusal.Statement.{statement}
+use Rattle.taking.proofs.take_refusal.Tie as tie
 
 list-refusal-requires : tie.Need-list-refusal-requires
 list-refusal-requires c κs =

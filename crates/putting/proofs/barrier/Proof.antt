@@ -1,9 +1,10 @@
--- `storing::barrier` meets its contract: a law of the definition for each way out. Assumes nothing.
+-- `putting::barrier` meets its contract: a law of the definition for each way out. Assumes nothing.
+use mathlib.Core.Path.{refl}
 use Rattle.blocks.proofs.Blocks.{block-as}
 use Rattle.blocks.proofs.Storing.{barrier-on, barrier-off}
 use borrow.Author.Needs.{needs}
-use Rattle.storing.proofs.barrier.Statement.{statement}
-use Rattle.storing.proofs.barrier.Tie as tie
+use Rattle.putting.proofs.barrier.Statement.{statement}
+use Rattle.putting.proofs.barrier.Tie as tie
 
 grey-white-requires : tie.Need-grey-white-requires
 grey-white-requires c κs =

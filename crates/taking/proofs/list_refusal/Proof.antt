@@ -1,7 +1,7 @@
--- `allocating::list_refusal` meets its contract. Assumes nothing.
+-- `taking::list_refusal` meets its contract. Assumes nothing.
 use Rattle.blocks.proofs.Allocating.{list-none, list-uncounted, list-counted, list-good, list-bad}
-use Rattle.allocating.proofs.list_refusal.Statement.{statement}
-use Rattle.allocating.proofs.list_refusal.Tie as tie
+use Rattle.taking.proofs.list_refusal.Statement.{statement}
+use Rattle.taking.proofs.list_refusal.Tie as tie
 
 returns : tie.Need-returns
 returns c =
