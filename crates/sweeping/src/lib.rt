@@ -93,7 +93,7 @@ pub fn sweeps(
 {
     let mut s = r;
     let mut j = i;
-    while j < n && s.phase == 2 {
+    while s.phase == 2 && j < n {
         let Progress::Done(next) = sweep_unit(s, words, colours, bytes) else {
             return Ran {
                 regs: s,

@@ -4,7 +4,7 @@ use mathlib.Core.Path.{_≡_, refl, _∙_}
 use mathlib.Core.Logic.{_≢_}
 use native.Mathlib.Omega.{arith}
 use lib.ListN.{length}
-use borrow.Author.Tests.{eqb-true, eqb-false}
+use borrow.Author.Tests.{ltb-true, ltb-false}
 use Rattle.blocks.specs.Registers.{sweeping}
 use Rattle.blocks.specs.Heap.{heap}
 use Rattle.blocks.specs.Ready.{Ready}
@@ -28,7 +28,7 @@ loop-holds c = (omega arith, omega arith, refl, refl, refl, c .before .before .b
 sweep-unit-requires : tie.Need-sweep-unit-requires Inv-loop μ-loop
 sweep-unit-requires c κs =
     let c-loop = c .before .before .before .before .before .before .loop in
-    (c-loop .inv .5, eqb-true _ _ (c .before .before .before .if1 .taken))
+    (c-loop .inv .5, c .before .before .before .before .if1 .taken)
 
 enum-known-next : tie.Need-enum-known-next Inv-loop μ-loop
 enum-known-next c = search needs
@@ -57,22 +57,22 @@ same-length-3 c =
 returns : tie.Need-returns Inv-loop μ-loop
 returns c =
     let c-loop = c .before .before .before .before .before .before .before .before .before .before .before .before .before .before .before .loop in
-    let c-loop-test = c .before .before .before .before .before .before .before .before .before .before .before .before .before .before .loop-test in
+    let c-if2 = c .before .before .before .before .before .before .before .before .before .before .before .before .if2 in
     let c-sweep-unit = c .before .before .before .before .before .before .before .before .sweep-unit in
-    loop-off _ _ _ (c-loop .s) (c-loop .words) (c-loop .colours) (c-loop .bytes) (c-loop .j) (c-loop-test .taken) (c-loop .inv .7) _ _ _ (c-sweep-unit .ensures) (c .enum-told .given .1)
+    loop-off _ _ _ (c-loop .s) (c-loop .words) (c-loop .colours) (c-loop .bytes) (c-loop .j) (ltb-true _ _ (c-if2 .taken)) (c-loop .inv .7) _ _ _ (c-sweep-unit .ensures) (c .enum-told .given .1)
 
 add-j : tie.Need-add-j Inv-loop μ-loop
-add-j c = omega arith
+add-j c = omega (arith, ltb-true)
 
 loop-less : tie.Need-loop-less Inv-loop μ-loop
-loop-less c = omega arith
+loop-less c = omega (arith, ltb-true)
 
 loop-again : tie.Need-loop-again Inv-loop μ-loop
 loop-again c =
     let c-sweep-unit = c .before .before .before .before .before .before .before .before .before .sweep-unit in
     let c-loop = c .before .before .before .before .before .before .before .before .before .before .before .before .before .before .before .before .loop in
-    let c-loop-test = c .before .before .before .before .before .before .before .before .before .before .before .before .before .before .before .loop-test in
-    (omega arith, omega arith, c-sweep-unit .kept .1 .0 ∙ c-loop .inv .2, c-sweep-unit .kept .1 .1 .0 ∙ c-loop .inv .3, c-sweep-unit .kept .1 .1 .1 .0 ∙ c-loop .inv .4, done-kept _ (c-loop .inv .5) _ _ _ _ _ _ (c-sweep-unit .ensures) (c .before .next .given .1), λ e. absurd (omega arith), loop-on _ _ _ (c-loop .s) (c-loop .words) (c-loop .colours) (c-loop .bytes) (c-loop .j) (c-loop-test .taken) (c-loop .inv .7) _ _ _ (c-sweep-unit .ensures) _ (c .before .next .given .1))
+    let c-if2 = c .before .before .before .before .before .before .before .before .before .before .before .before .before .if2 in
+    (omega arith, omega (arith, ltb-true), c-sweep-unit .kept .1 .0 ∙ c-loop .inv .2, c-sweep-unit .kept .1 .1 .0 ∙ c-loop .inv .3, c-sweep-unit .kept .1 .1 .1 .0 ∙ c-loop .inv .4, done-kept _ (c-loop .inv .5) _ _ _ _ _ _ (c-sweep-unit .ensures) (c .before .next .given .1), λ e. absurd (omega arith), loop-on _ _ _ (c-loop .s) (c-loop .words) (c-loop .colours) (c-loop .bytes) (c-loop .j) (ltb-true _ _ (c-if2 .taken)) (c-loop .inv .7) _ _ _ (c-sweep-unit .ensures) _ (c .before .next .given .1))
 
 same-length-4 : tie.Need-same-length-4 Inv-loop μ-loop
 same-length-4 c = c .before .before .before .loop .inv .2
@@ -84,21 +84,21 @@ same-length-6 : tie.Need-same-length-6 Inv-loop μ-loop
 same-length-6 c = c .before .before .before .loop .inv .4
 
 returns-2 : tie.Need-returns-2 Inv-loop μ-loop
-returns-2 c =
-    let c-args = c .before .before .before .before .before .before .before .args in
-    let o : c .before .before .before .loop .j ≢ c-args .i = λ e. eqb-false _ _ (c .if1 .left) (c .before .before .before .loop .inv .6 e) in went-on _ _ _ _ _ _ _ _ (omega arith) (c .before .before .before .loop .inv .1) (c .before .before .before .loop .inv .5) (c .before .before .before .loop .inv .7)
+returns-2 c = went-on _ _ _ _ _ _ _ _ (omega (arith, ltb-false)) (c .before .before .before .loop .inv .1) (c .before .before .before .loop .inv .5) (c .before .before .before .loop .inv .7)
 
 same-length-7 : tie.Need-same-length-7 Inv-loop μ-loop
-same-length-7 c = c .before .loop .inv .2
+same-length-7 c = c .before .before .loop .inv .2
 
 same-length-8 : tie.Need-same-length-8 Inv-loop μ-loop
-same-length-8 c = c .before .loop .inv .3
+same-length-8 c = c .before .before .loop .inv .3
 
 same-length-9 : tie.Need-same-length-9 Inv-loop μ-loop
-same-length-9 c = c .before .loop .inv .4
+same-length-9 c = c .before .before .loop .inv .4
 
 returns-3 : tie.Need-returns-3 Inv-loop μ-loop
-returns-3 c = went-on _ _ _ _ _ _ _ _ (omega arith) (c .before .loop .inv .1) (c .before .loop .inv .5) (c .before .loop .inv .7)
+returns-3 c =
+    let c-args = c .before .before .before .before .before .before .args in
+    let o : c .before .before .loop .j ≢ c-args .i = λ e. c .if1 .left (c .before .before .loop .inv .6 e) in went-on _ _ _ _ _ _ _ _ (omega arith) (c .before .before .loop .inv .1) (c .before .before .loop .inv .5) (c .before .before .loop .inv .7)
 
 pub sweeps-spec : {M : Type 1} → statement M
 sweeps-spec =
