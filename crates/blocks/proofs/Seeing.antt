@@ -1,9 +1,10 @@
 -- Laws of what marking sees of a block's references.
+--     seen-white, seen-black, seen-grey, seen-damage     the four ways of seen for a block, by its colour word
 --     sound-seen, all-seen     seen unharmed is sound, one by one and all together
 --     all-named, grey-named    sound references are 0 or blocks
 --     settled-stays            where none names a white block, greying changes nothing, also once the marked block is black
 -- Assumes nothing.
-use Prim.Native.Nat.{ℕ, _-_, _<_}
+use Prim.Native.Nat.{ℕ, _+_, _-_, _≤_, _<_}
 use mathlib.Core.Path.{_≡_, refl, sym, _∙_, ap, subst}
 use mathlib.Core.Logic.{_≢_, ⊎-elim}
 use mathlib.Core.Bool.{Bool, true, false, _&&_}
@@ -19,14 +20,33 @@ use Rattle.blocks.specs.declared.Seen.{Seen}
 use Rattle.blocks.specs.declared.Seen.the-variants.{Settled, ToGrey, Damaged}
 use Rattle.blocks.specs.Tests.{if_then_else_}
 use Rattle.blocks.specs.Block.{isBlock}
-use Rattle.blocks.specs.Colouring.{Colouring, white, black, colour, colourWord, toBlack, greyWhite, greyAll, allocatedColour, isAllocated}
+use Rattle.blocks.specs.Colouring.{Colouring, white, black, freed, colour, colourWord, toBlack, greyWhite, greyAll, allocatedColour, isAllocated}
 use Rattle.blocks.specs.WellFormed.{Block}
 use Rattle.blocks.specs.OneUnit.{sound, allSound}
 use Rattle.blocks.specs.Seen.{seenColour, seen, seenNext, seenAll, unharmed, Named}
 use Rattle.blocks.proofs.Tests.{both-true, either-true, by-test, by-eq}
 use Rattle.blocks.proofs.Blocks.{isBlock-block}
-use Rattle.blocks.proofs.Colours.{is-white, not-a-block, not-white}
+use Rattle.blocks.proofs.Colours.{is-white, is-black, is-free, is-grey, is-outside, not-a-block, not-white}
 use Rattle.blocks.proofs.Steps.{never}
+
+module _ (m : ℕ) (cs : List ℕ) (b : ℕ) {word : ℕ} (n : b ≢ 0) (i : isBlock m b ≡ true) (w : word ≡ colourWord cs b) where
+  seen-as : {c : Colour} → c ≡ colour m word → seenColour c ≡ seen m cs b
+  unfolding seen
+  seen-as e = simp (ne-eqb b 0 n, i, ← w) (ap seenColour e)
+
+  pub seen-white : word ≡ white → ToGrey ≡ seen m cs b
+  seen-white e = seen-as (is-white m word e)
+
+  pub seen-black : word ≡ black → Settled ≡ seen m cs b
+  seen-black e = seen-as (is-black m word e)
+
+  module _ (x : word ≢ white) (y : word ≢ black) where
+    -- the word of a free block is above every block number
+    pub seen-grey : m ≤ 16384 → word ≤ m + 1 → Settled ≡ seen m cs b
+    seen-grey k l = seen-as (is-grey m word x y (λ f. absurd (omega arith)) l)
+
+    pub seen-damage : m + 1 < word → Damaged ≡ seen m cs b
+    seen-damage l = by-eq word freed (λ f. seen-as (is-free m word f)) (λ f. seen-as (is-outside m word x y f l))
 
 colour-unharmed : (c : Colour) → allocatedColour c ≡ unharmed (seenColour c)
 colour-unharmed White = refl

@@ -10,7 +10,7 @@ ghost use lib.ListN.{length, replicate};
 ghost use Rattle.blocks.specs.WellFormed.{Block};
 ghost use Rattle.blocks.specs.Block.{isBlock};
 ghost use Rattle.blocks.specs.Colouring.{Colouring, colour, colourWord, paint, toGrey, toBlack, greyWhite, freeColour, freshColours};
-ghost use Rattle.blocks.specs.Seen.{seenColour, seen};
+ghost use Rattle.blocks.specs.Seen.{seen};
 ghost use Rattle.blocks.specs.Tests.{if_then_else_};
 
 // The colour words that are no link.
@@ -119,19 +119,6 @@ pub fn grey_white(head: u32, colours: &mut [u32], b: u32) -> u32
     head
 }
 
-// What a reference to a block of the colour is to the block that is marked.
-pub fn seen_colour(c: Colour) -> Seen
-    ensures { λ r. ⌜ r ≡ seenColour c ⌝ }
-{
-    match c {
-        Colour::White => Seen::ToGrey,
-        Colour::Grey => Seen::Settled,
-        Colour::Black => Seen::Settled,
-        Colour::Free => Seen::Damaged,
-        Colour::Outside => Seen::Damaged,
-    }
-}
-
 // What the reference b is to the block that is marked.
 pub fn seen(m: u32, colours: &[u32], b: u32) -> Seen
     requires { ⌜ (m ≤ 16384) × (length (now colours) ≡ m) ⌝ }
@@ -141,7 +128,16 @@ pub fn seen(m: u32, colours: &[u32], b: u32) -> Seen
         return Seen::Settled;
     }
     if is_block(m, b) {
-        return seen_colour(colour(m, word_of(colours, b)));
+        let word = word_of(colours, b);
+        if word == WHITE {
+            return Seen::ToGrey;
+        }
+        if word == BLACK {
+            return Seen::Settled;
+        }
+        if word <= m + 1 {
+            return Seen::Settled;
+        }
     }
     Seen::Damaged
 }
