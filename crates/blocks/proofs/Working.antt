@@ -1,5 +1,5 @@
 -- Laws of Work, one for each way out.
---     work-refused, work-over, work-done     refused by 1 or 2, by 9, and done
+--     work-refused, work-over, work-none, work-done     refused by 1 or 2, by 9, no units asked for, and done
 -- Assumes nothing.
 use Prim.Native.Nat.{ℕ, _≤_, _<_}
 use mathlib.Core.Path.{_≡_, refl, _∙_, ap}
@@ -8,7 +8,7 @@ use native.Mathlib.Omega.{arith}
 use borrow.Author.Tests.{le-leb, lt-leb}
 use Rattle.blocks.specs.Heap.{Heap}
 use Rattle.blocks.specs.Entry.{entry}
-use Rattle.blocks.specs.Answers.{Given, refuse}
+use Rattle.blocks.specs.Answers.{Given, refuse, done}
 use Rattle.blocks.specs.Units.{RunEnd, run}
 use Rattle.blocks.specs.Work.{countRefusal, worked, work}
 use Rattle.blocks.proofs.Refusals.{stops, passes}
@@ -22,6 +22,10 @@ module _ (k : ℕ) (h : Heap) {g : Given} {n : ℕ} where
   pub work-over : n ≡ entry h → n ≡ 0 → 65535 < k → g ≡ refuse 9 h → g ≡ work k h
   unfolding work countRefusal
   work-over e z l r = unless-stops {n = 9} _ (passes e z (simp (lt-leb k 65535 l))) (λ i. absurd (omega arith)) r
+
+  pub work-none : n ≡ entry h → n ≡ 0 → k ≡ 0 → g ≡ done 0 h → g ≡ work k h
+  unfolding work countRefusal run
+  work-none e z o r = rw o (unless-passes h (passes {n = 0} e z refl) refl r)
 
   pub work-done : {e : RunEnd} → n ≡ entry h → n ≡ 0 → k ≤ 65535 → e ≡ run k 0 h → g ≡ worked e → g ≡ work k h
   unfolding work countRefusal

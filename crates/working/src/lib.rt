@@ -6,7 +6,7 @@ ghost use Rattle.blocks.specs.Heap.{heap};
 ghost use Rattle.blocks.specs.Answers.{given};
 ghost use Rattle.blocks.specs.Work.{work};
 
-// Work: n units, n at most 65,535. Damage ends it with 8, and the units finished before it stand and are counted.
+// Work: n units, n at most 65,535; where n is 0 nothing is run. Damage ends it with 8, and the units finished before it stand and are counted.
 pub fn work(r: Regs, words: &mut [u32], colours: &mut [u32], bytes: &mut [u8], n: u32) -> Outcome
     ensures { λ o. ⌜ given o (now (words .exit)) (now (colours .exit)) (now (bytes .exit)) ≡ work n (heap r (now (words .entry)) (now (colours .entry)) (now (bytes .entry))) ⌝ }
 {
@@ -16,6 +16,9 @@ pub fn work(r: Regs, words: &mut [u32], colours: &mut [u32], bytes: &mut [u8], n
     }
     if 65535 < n {
         return checks::refused(r, 9);
+    }
+    if n == 0 {
+        return checks::done(r, 0);
     }
     let ran = collector::run(r, words, colours, bytes, n);
     let s = ran.regs;

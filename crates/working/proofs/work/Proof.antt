@@ -1,7 +1,8 @@
 -- `working::work` meets its contract: a law for each way out. Assumes nothing.
 use mathlib.Core.Path.{sym, _∙_}
+use native.Mathlib.Omega.{arith}
 use Rattle.blocks.proofs.Entering.{entry-ready}
-use Rattle.blocks.proofs.Working.{work-refused, work-over, work-done}
+use Rattle.blocks.proofs.Working.{work-refused, work-over, work-none, work-done}
 use borrow.Author.Needs.{needs}
 use Rattle.working.proofs.work.Statement.{statement}
 use Rattle.working.proofs.work.Tie as tie
@@ -44,14 +45,8 @@ returns-2 c =
     let c-if1 = c .before .before .if1 in
     work-over _ _ (c-entry .ensures) (c-if1 .left) (c .before .if2 .taken) (c .refused2 .ensures _ _ _)
 
-run-requires : tie.Need-run-requires
-run-requires c κs =
-    let c-entry = c .before .before .before .before .before .entry in
-    let c-if1 = c .before .before .before .before .if1 in
-    entry-ready _ (sym (c-entry .ensures) ∙ c-if1 .left)
-
-answered-requires : tie.Need-answered-requires
-answered-requires c κs = search needs
+done-requires : tie.Need-done-requires
+done-requires c κs = search needs
 
 same-length-7 : tie.Need-same-length-7
 same-length-7 c = search needs
@@ -64,9 +59,33 @@ same-length-9 c = search needs
 
 returns-3 : tie.Need-returns-3
 returns-3 c =
-    let c-entry = c .before .before .before .before .before .before .before .before .before .before .before .before .before .before .entry in
-    let c-if1 = c .before .before .before .before .before .before .before .before .before .before .before .before .before .if1 in
-    let c-if2 = c .before .before .before .before .before .before .before .before .before .before .before .before .if2 in
+    let c-entry = c .before .before .before .before .entry in
+    let c-if1 = c .before .before .before .if1 in
+    work-none _ _ (c-entry .ensures) (c-if1 .left) (omega arith) (c .done .ensures _ _ _)
+
+run-requires : tie.Need-run-requires
+run-requires c κs =
+    let c-entry = c .before .before .before .before .before .before .entry in
+    let c-if1 = c .before .before .before .before .before .if1 in
+    entry-ready _ (sym (c-entry .ensures) ∙ c-if1 .left)
+
+answered-requires : tie.Need-answered-requires
+answered-requires c κs = search needs
+
+same-length-10 : tie.Need-same-length-10
+same-length-10 c = search needs
+
+same-length-11 : tie.Need-same-length-11
+same-length-11 c = search needs
+
+same-length-12 : tie.Need-same-length-12
+same-length-12 c = search needs
+
+returns-4 : tie.Need-returns-4
+returns-4 c =
+    let c-entry = c .before .before .before .before .before .before .before .before .before .before .before .before .before .before .before .entry in
+    let c-if1 = c .before .before .before .before .before .before .before .before .before .before .before .before .before .before .if1 in
+    let c-if2 = c .before .before .before .before .before .before .before .before .before .before .before .before .before .if2 in
     let c-run = c .before .before .before .before .before .before .before .before .run in
     work-done _ _ (c-entry .ensures) (c-if1 .left) (c-if2 .left) (c-run .ensures) (c .answered .ensures _ _ _)
 
@@ -85,9 +104,14 @@ work-spec =
     same-length-5
     same-length-6
     returns-2
-    run-requires
-    answered-requires
+    done-requires
     same-length-7
     same-length-8
     same-length-9
-    returns-3)
+    returns-3
+    run-requires
+    answered-requires
+    same-length-10
+    same-length-11
+    same-length-12
+    returns-4)
