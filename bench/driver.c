@@ -125,7 +125,7 @@ static void two_marking(void)
     r.phase = MARKING;
 }
 
-/* ---- units: each measure is n units of one kind in one Work ---- */
+/* ---- units: each measure is n units in one Work, and what the larger n adds is of one kind ---- */
 
 /* n grey blocks, each with k references to the last block. That is black, or grey and the end of the list. */
 static void marking(const char *of, uint32_t n, uint32_t k, uint32_t colour)
@@ -184,19 +184,24 @@ static void sweeping(const char *of, uint32_t n, uint32_t colour)
     work(n);
 }
 
-/* The first unit of a cycle, with a root. */
+/* The last block is swept, and then a cycle starts, with a root. */
 static void starting(uint32_t n)
 {
     two();
+    r.phase = SWEEPING;
+    r.position = m + 1;
     audit();
     measure("starting", n);
     work(n);
 }
 
-/* The unit that finds the grey list empty. */
+/* The only grey block, without references, is marked, and then the grey list is found empty. */
 static void turning(uint32_t n)
 {
-    two_marking();
+    two();
+    r.phase = MARKING;
+    r.grey = 2;
+    colours[0] = LAST;
     audit();
     measure("turning", n);
     work(n);
@@ -306,10 +311,10 @@ static void calls(uint32_t size)
     m = size;
     unit_measures(50);
     unit_measures(100);
-    starting(0);
     starting(1);
-    turning(0);
+    starting(2);
     turning(1);
+    turning(2);
     idle_measures();
     barrier_measures();
     steady("allocate-4", 4);
