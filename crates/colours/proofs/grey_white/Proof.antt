@@ -1,5 +1,5 @@
 -- `colours::grey_white` meets its contract: a law of the layout for each way out. Assumes nothing.
-use mathlib.Core.Path.{_∙_}
+use mathlib.Core.Path.{refl, _∙_}
 use native.Mathlib.Omega.{arith}
 use Rattle.blocks.proofs.Tests.{so}
 use Rattle.blocks.proofs.Blocks.{block-isBlock, below-isBlock}
@@ -27,7 +27,7 @@ returns c =
     c-to-grey .ensures ∙ was-white _ _ _ (block-isBlock _ _ (c-pre (c-if1 .taken))) (so (c-word-of .ensures) (c-if2 .taken))
 
 same-length-2 : tie.Need-same-length-2
-same-length-2 c = search needs
+same-length-2 c = refl
 
 returns-2 : tie.Need-returns-2
 returns-2 c = not-white _ _ _ (λ z. c .if2 .left (c .before .word-of .ensures ∙ z))

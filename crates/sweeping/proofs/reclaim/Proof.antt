@@ -1,4 +1,5 @@
 -- `sweeping::reclaim` meets its contract. Assumes nothing.
+use mathlib.Core.Path.{refl}
 use Rattle.blocks.proofs.Sweeping.{reclaim-full, reclaim-done}
 use Rattle.blocks.proofs.Parts.{back-is}
 use borrow.Author.Needs.{needs}

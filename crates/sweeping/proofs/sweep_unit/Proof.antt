@@ -74,7 +74,7 @@ returns-2 c =
     unit-by (c-args .r) (c-args .words .now) (c-args .colours .now) (c-args .bytes .now) (c-pre .1) (met-sweeping (c-args .r) (c-args .words .now) (c-args .colours .now) (c-args .bytes .now) (c-pre .1) (sweeps-block _ (c-pre .0) (c-pre .1)) (c-word-of .ensures)) (c-step .ensures) (c-enum-told2 .given .1) (ap finish (c .before .before .whiten .ensures _ _))
 
 same-length-5 : tie.Need-same-length-5
-same-length-5 c = search needs
+same-length-5 c = refl
 
 returns-3 : tie.Need-returns-3
 unfolding act ended passed
@@ -85,7 +85,7 @@ returns-3 c =
     unit-by (c-args .r) (c-args .words .now) (c-args .colours .now) (c-args .bytes .now) (c-pre .1) (met-sweeping (c-args .r) (c-args .words .now) (c-args .colours .now) (c-args .bytes .now) (c-pre .1) (sweeps-block _ (c-pre .0) (c-pre .1)) (c-word-of .ensures)) (c .before .before .before .step .ensures) (c .before .enum-told3 .given .1) (rw (c .advance .ensures) refl)
 
 same-length-6 : tie.Need-same-length-6
-same-length-6 c = search needs
+same-length-6 c = refl
 
 returns-4 : tie.Need-returns-4
 unfolding act ended

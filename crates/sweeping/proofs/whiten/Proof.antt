@@ -1,4 +1,5 @@
 -- `sweeping::whiten` meets its contract. Assumes nothing.
+use mathlib.Core.Path.{refl}
 use Rattle.blocks.proofs.Sweeping.{whiten-done}
 use borrow.Author.Needs.{needs}
 use Rattle.sweeping.proofs.whiten.Statement.{statement}

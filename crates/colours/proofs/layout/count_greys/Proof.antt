@@ -24,7 +24,7 @@ is-grey-requires : tie.Need-is-grey-requires Inv-loop μ-loop
 is-grey-requires c κs = search needs
 
 one-requires : tie.Need-one-requires Inv-loop μ-loop
-one-requires c κs = search needs
+one-requires c κs = tt
 
 add-n : tie.Need-add-n Inv-loop μ-loop
 add-n c = let k = one-most _ (c .before .is-grey .result) (c .one .ensures) in search needs

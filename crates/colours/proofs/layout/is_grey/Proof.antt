@@ -18,7 +18,7 @@ colour-requires : tie.Need-colour-requires
 colour-requires c κs = search needs
 
 grey-colour-requires : tie.Need-grey-colour-requires
-grey-colour-requires c κs = search needs
+grey-colour-requires c κs = tt
 
 returns : tie.Need-returns
 returns c =
