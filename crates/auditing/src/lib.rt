@@ -4,30 +4,26 @@ use blocks::Colour;
 use blocks::Regs;
 ghost use mathlib.Core.Path.{_≡_};
 ghost use mathlib.Core.List.{List};
+ghost use mathlib.Core.Bool.{true};
 ghost use Prim.Native.Nat.{ℕ, _≤_};
 ghost use lib.ListN.{length};
 ghost use Rattle.blocks.specs.declared.Regs.{Regs};
 ghost use Rattle.blocks.specs.declared.Colour.the-variants.{White, Grey, Black, Free};
 ghost use mathlib.Core.Logic.{_↔_};
 ghost use Rattle.blocks.specs.WellFormed.{Block, WellFormed};
-ghost use Rattle.blocks.specs.Heap.{heap};
+ghost use Rattle.blocks.specs.Heap.{heap, colouring};
 ghost use Rattle.blocks.specs.Ready.{Ready};
-ghost use Rattle.blocks.specs.Audit.{allFrom, zeroFrom, mayBeBlack, colourPasses, blockPasses, passes, audit};
+ghost use Rattle.blocks.specs.Audit.{allFrom, layoutPasses, zeroFrom, mayBeBlack, colourPasses, blockPasses, passes, audit};
 
 // Whether words 1 to 7 are 0.
 fn zeroes(part: &[u32]) -> bool
     requires { ⌜ length (now part) ≡ 8 ⌝ }
     ensures { λ t. ⌜ t ≡ zeroFrom 7 1 (now (part .entry)) ⌝ }
 {
-    let mut w = 1;
-    while w < 8 {
-        if part[w] == 0 {
-            w += 1;
-        } else {
-            return false;
-        }
+    if (part[1] | part[2] | part[3]) != 0 {
+        return false;
     }
-    true
+    (part[4] | part[5] | part[6] | part[7]) == 0
 }
 
 // Whether the block b may be black.
@@ -124,13 +120,24 @@ fn blocks_pass(r: Regs, words: &[u32], colours: &[u32], bytes: &[u8]) -> bool
     true
 }
 
+// Whether the grey list has exactly the grey blocks, asked where every block passes: then a block is grey only while marking.
+fn greys(r: Regs, colours: &[u32]) -> bool
+    requires { ⌜ (r .blocks ≤ 16384) × (length (now colours) ≡ r .blocks) ⌝ }
+    ensures { λ t. ⌜ ((ws bs : List ℕ) → Ready (heap r ws (now (colours .entry)) bs) → allFrom (blockPasses (heap r ws (now (colours .entry)) bs)) (r .blocks) 2 ≡ true → t ≡ layoutPasses (r .blocks) (colouring (heap r ws (now (colours .entry)) bs))) ⌝ }
+{
+    if r.phase != 1 {
+        return true;
+    }
+    colours::layout::greys_pass(r.blocks, r.grey, colours)
+}
+
 // Whether the heap is well-formed. A block whose colour is legal is all that passes, so legal colours are not looked for apart.
 fn passes(r: Regs, words: &[u32], colours: &[u32], bytes: &[u8]) -> bool
     ensures { λ t. ⌜ t ≡ passes (heap r (now (words .entry)) (now (colours .entry)) (now (bytes .entry))) ⌝ }
 {
     if checks::entry(r, words, colours, bytes) == 0 {
         if blocks_pass(r, words, colours, bytes) {
-            if colours::layout::greys_pass(r.blocks, r.grey, colours) {
+            if greys(r, colours) {
                 if naming::may_name(r, colours, r.phase == 1, r.root) {
                     return walks::frees_pass(r, words, colours);
                 }

@@ -8,14 +8,14 @@
 --     white-doomed, white-as, grey-off, grey-named, black-off, black-as, freed-off, freed-as     two ways for each colour
 --     eight-words                                  a block's words, as a part of the word buffer
 --     block-as                                     a block, by its colour
---     layout-greys                                 where every block passes, the layout's part is the grey list's
+--     layout-greys, layout-plain                   where every block passes: the layout's part is the grey list's, and holds outside marking
 --     entry-no, blocks-fail, layout-off, root-off, passes-as     the five ways of passes
 --     audit-one, audit-none                        the two ways of audit
 -- Assumes nothing.
 use Prim.Native.Nat.{ℕ, zero, suc, _+_, _-_}
-use mathlib.Core.Path.{_≡_, refl, _∙_}
+use mathlib.Core.Path.{_≡_, refl, sym, _∙_}
 use mathlib.Core.Logic.{_≢_}
-use mathlib.Core.Bool.{Bool, true, false}
+use mathlib.Core.Bool.{Bool, true, false, _&&_, and-false, or-false}
 use mathlib.Core.List.{List}
 use borrow.Author.Tests.{eq-eqb, ne-eqb}
 use native.Mathlib.Omega.{arith}
@@ -27,10 +27,11 @@ use Rattle.blocks.specs.declared.Colour.the-variants.{White, Grey, Black
 use Rattle.blocks.specs.declared.Standing.{Standing}
 use Rattle.blocks.specs.Registers.{marking}
 use Rattle.blocks.specs.Block.{isBlock, base, wordOf, byteOf, eightWords, references}
-use Rattle.blocks.specs.Colouring.{colour, colourWord, freeColour}
+use Rattle.blocks.specs.Colouring.{colour, colourWord, freeColour, headLegal}
 use Rattle.blocks.specs.Heap.{Heap, colouring}
 use Rattle.blocks.specs.Standing.{doomedWhite, standing}
 use Rattle.blocks.specs.Entry.{entry}
+use Rattle.blocks.specs.Ready.{Ready}
 use Rattle.blocks.specs.Answers.{done}
 use Rattle.blocks.specs.Audit.{allFrom, countFrom, walk, legalColour, greyColour, isLegal, isGrey, isFree, layoutPasses, isLive, notWhite, mayBeNamed, mayName, mayNameAll, zeroFrom, mayBeBlack, colourPasses, blockPasses, freesPass, passes, audit}
 use Rattle.blocks.proofs.Tests.{both-true, both, by-test, clash}
@@ -170,6 +171,33 @@ module _ (h : Heap) where
       → t ≡ layoutPasses (h .regs .blocks) (colouring h)
   unfolding layoutPasses
   layout-greys a e = e ∙ simp (blocks-legal (h .regs .blocks) 2 a)
+
+  module _ (o : h .regs .phase ≢ marking) where
+    -- outside marking no block that passes is grey
+    block-plain : (b : ℕ) → blockPasses h b ≡ true → isGrey (h .regs .blocks) (h .colours) b ≡ false
+    unfolding blockPasses isGrey colourPasses
+    block-plain b = go (colour (h .regs .blocks) (colourWord (h .colours) b))
+      where
+        go : (c : Colour) → colourPasses (h .regs) (h .colours) (eightWords (h .words) b) (byteOf (h .bytes) b) b c ≡ true → (isBlock (h .regs .blocks) b && greyColour c) ≡ false
+        go White e = and-false (isBlock (h .regs .blocks) b)
+        go Grey e = clash e (simp (ne-eqb (h .regs .phase) marking o))
+        go Black e = and-false (isBlock (h .regs .blocks) b)
+        go Free e = and-false (isBlock (h .regs .blocks) b)
+        go Outside e = clash e refl
+
+    blocks-plain : (n b : ℕ) → allFrom (blockPasses h) n b ≡ true → countFrom (isGrey (h .regs .blocks) (h .colours)) n b ≡ 0
+    unfolding allFrom countFrom
+    blocks-plain zero b e = refl
+    blocks-plain (suc n) b e =
+        let (p, q) = both-true (blockPasses h b) (allFrom (blockPasses h) n (b + 1)) e in
+        simp (block-plain b p, blocks-plain n (b + 1) q)
+
+    -- so the grey list is empty, as a legal grey head says, and the layout's part holds
+    pub layout-plain : Ready h → allFrom (blockPasses h) (h .regs .blocks) 2 ≡ true → true ≡ layoutPasses (h .regs .blocks) (colouring h)
+    unfolding headLegal walk
+    layout-plain d a =
+        let g = simp (ne-eqb (h .regs .phase) marking o, or-false) at (d .grey) in
+        layout-greys a (rw (blocks-plain (h .regs .blocks) 2 a) (sym g))
 
   pub entry-no : entry h ≢ 0 → false ≡ passes h
   unfolding passes

@@ -1,20 +1,23 @@
--- Laws of the audit's loops over a block's eight words: what is tested so far, and what is still to come.
---     names-on, names-off, names-end       its references: a word that passes, a word that fails, the end
---     zero-on, zero-off, zero-end          its words 1 to 7: a word that is 0, a word that isn't, the end
+-- Laws of the audit's tests of a block's eight words.
+--     names-on, names-off, names-end       the loop over its references: a word that passes, a word that fails, the end
+--     zero-off, zero-as                    its words 1 to 7: one of the first three isn't 0, or the last four decide
 -- Assumes nothing.
 use Prim.Native.Nat.{ℕ, _+_}
 use mathlib.Core.Path.{_≡_, refl, sym}
 use mathlib.Core.Logic.{_≢_}
-use mathlib.Core.Bool.{Bool, true, false}
+use mathlib.Core.Bool.{Bool, true, false, _&&_, and-assoc, and-true}
 use mathlib.Core.List.{List, []}
 use native.Mathlib.Numerals.{add-one}
+use native.Mathlib.Omega.{arith}
+use lib.Bits.{bitOr, or-add-and, and-le-r}
+use lib.Dec.{eqb}
 use lib.ListN.{getD}
 use borrow.Author.Tests.{eq-eqb, ne-eqb}
 use Rattle.blocks.specs.declared.Regs.{Regs}
 use Rattle.blocks.specs.Tests.{if_then_else_}
 use Rattle.blocks.specs.Block.{bit, referencesFrom}
 use Rattle.blocks.specs.Audit.{mayName, mayNameAll, zeroFrom}
-use Rattle.blocks.proofs.Tests.{clash}
+use Rattle.blocks.proofs.Tests.{clash, by-eq}
 
 module _ (r : Regs) (cs : List ℕ) (s : Bool) (part : List ℕ) (byte : ℕ) (t : Bool) (n w : ℕ) (i : t ≡ mayNameAll r cs s (referencesFrom n w part byte)) where
   pub names-on :
@@ -39,15 +42,25 @@ module _ (r : Regs) (cs : List ℕ) (s : Bool) (part : List ℕ) (byte : ℕ) (t
   unfolding mayNameAll
   names-end e = sym (rw e at i)
 
-module _ (part : List ℕ) (t : Bool) (n w : ℕ) (i : t ≡ zeroFrom n w part) where
-  pub zero-on : (k : ℕ) → n ≡ k + 1 → getD part w 0 ≡ 0 → t ≡ zeroFrom k (w + 1) part
-  unfolding zeroFrom
-  zero-on k e z = simp (eq-eqb (getD part w 0) 0 z) at (rw (e, add-one k) at i)
+-- an or is 0 exactly where both sides are
+or-zero : (a b : ℕ) → eqb (bitOr a b) 0 ≡ (eqb a 0 && eqb b 0)
+or-zero a b = by-eq a 0
+    (λ z. rw z refl)
+    (λ n. simp (ne-eqb a 0 n, ne-eqb (bitOr a b) 0 (λ z. n (omega (arith, or-add-and a b, and-le-r a b)))))
 
-  pub zero-off : (k : ℕ) → n ≡ k + 1 → getD part w 0 ≢ 0 → false ≡ t
-  unfolding zeroFrom
-  zero-off k e z = sym (simp (ne-eqb (getD part w 0) 0 z) at (rw (e, add-one k) at i))
+module _ (part : List ℕ) where
+  abbrev three : ℕ
+  three = bitOr (bitOr (getD part 1 0) (getD part 2 0)) (getD part 3 0)
 
-  pub zero-end : n ≡ 0 → true ≡ t
+  abbrev four : ℕ
+  four = bitOr (bitOr (bitOr (getD part 4 0) (getD part 5 0)) (getD part 6 0)) (getD part 7 0)
+
+  zero-parts : (eqb three 0 && eqb four 0) ≡ zeroFrom 7 1 part
   unfolding zeroFrom
-  zero-end e = sym (rw e at i)
+  zero-parts = simp (or-zero, and-assoc, and-true)
+
+  pub zero-off : three ≢ 0 → false ≡ zeroFrom 7 1 part
+  zero-off n = simp (ne-eqb three 0 n) at zero-parts
+
+  pub zero-as : three ≡ 0 → eqb four 0 ≡ zeroFrom 7 1 part
+  zero-as z = simp (eq-eqb three 0 z) at zero-parts

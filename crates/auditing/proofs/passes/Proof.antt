@@ -1,7 +1,7 @@
 -- `auditing::passes` meets its contract. Assumes nothing.
 use Rattle.blocks.proofs.Tests.{so}
 use Rattle.blocks.proofs.Entering.{entry-ready}
-use Rattle.blocks.proofs.Passing.{entry-no, blocks-fail, layout-greys, layout-off, root-off, passes-as}
+use Rattle.blocks.proofs.Passing.{entry-no, blocks-fail, layout-off, root-off, passes-as}
 use mathlib.Core.Path.{sym, _∙_}
 use borrow.Author.Needs.{needs}
 use Rattle.auditing.proofs.passes.Statement.{statement}
@@ -13,8 +13,8 @@ entry-requires c κs = search needs
 blocks-pass-requires : tie.Need-blocks-pass-requires
 blocks-pass-requires c κs = entry-ready _ (so (c .before .entry .ensures) (c .if1 .taken))
 
-greys-pass-requires : tie.Need-greys-pass-requires
-greys-pass-requires c κs = let d = entry-ready _ (so (c .before .before .before .entry .ensures) (c .before .before .if1 .taken)) in (d .most, d .colours)
+greys-requires : tie.Need-greys-requires
+greys-requires c κs = let d = entry-ready _ (so (c .before .before .before .entry .ensures) (c .before .before .if1 .taken)) in (d .most, d .colours)
 
 may-name-requires : tie.Need-may-name-requires
 may-name-requires c κs =
@@ -34,10 +34,11 @@ returns c =
     let c-if2 = c .before .before .before .before .before .before .if2 in
     let c-entry = c .before .before .before .before .before .before .before .before .before .entry in
     let c-if1 = c .before .before .before .before .before .before .before .before .if1 in
-    let c-greys-pass = c .before .before .before .before .before .greys-pass in
+    let c-greys = c .before .before .before .before .before .greys in
     let c-if3 = c .before .before .before .before .if3 in
+    let e = so (c-entry .ensures) (c-if1 .taken) in
     let a = so (c-blocks-pass .ensures) (c-if2 .taken) in
-    passes-as _ (so (c-entry .ensures) (c-if1 .taken)) (so (layout-greys _ a (c-greys-pass .ensures)) (c-if3 .taken)) a _ (so (c .before .before .may-name .ensures) (c .before .if4 .taken)) (c .frees-pass .ensures)
+    passes-as _ e (so (c-greys .ensures _ _ (entry-ready _ e) a) (c-if3 .taken)) a _ (so (c .before .before .may-name .ensures) (c .before .if4 .taken)) (c .frees-pass .ensures)
 
 returns-2 : tie.Need-returns-2
 returns-2 c =
@@ -45,16 +46,18 @@ returns-2 c =
     let c-if2 = c .before .before .before .before .before .if2 in
     let c-entry = c .before .before .before .before .before .before .before .before .entry in
     let c-if1 = c .before .before .before .before .before .before .before .if1 in
-    let c-greys-pass = c .before .before .before .before .greys-pass in
+    let c-greys = c .before .before .before .before .greys in
+    let e = so (c-entry .ensures) (c-if1 .taken) in
     let a = so (c-blocks-pass .ensures) (c-if2 .taken) in
-    root-off _ (so (c-entry .ensures) (c-if1 .taken)) (so (layout-greys _ a (c-greys-pass .ensures)) (c .before .before .before .if3 .taken)) a (so (c .before .may-name .ensures) (c .if4 .left))
+    root-off _ e (so (c-greys .ensures _ _ (entry-ready _ e) a) (c .before .before .before .if3 .taken)) a (so (c .before .may-name .ensures) (c .if4 .left))
 
 returns-3 : tie.Need-returns-3
 returns-3 c =
     let c-entry = c .before .before .before .before .before .entry in
     let c-if1 = c .before .before .before .before .if1 in
+    let e = so (c-entry .ensures) (c-if1 .taken) in
     let a = so (c .before .before .before .blocks-pass .ensures) (c .before .before .if2 .taken) in
-    layout-off _ (so (c-entry .ensures) (c-if1 .taken)) (so (layout-greys _ a (c .before .greys-pass .ensures)) (c .if3 .left))
+    layout-off _ e (so (c .before .greys .ensures _ _ (entry-ready _ e) a) (c .if3 .left))
 
 returns-4 : tie.Need-returns-4
 returns-4 c = blocks-fail _ (so (c .before .before .before .entry .ensures) (c .before .before .if1 .taken)) (so (c .before .blocks-pass .ensures) (c .if2 .left))
@@ -68,7 +71,7 @@ passes-spec =
     (tie.spec
     entry-requires
     blocks-pass-requires
-    greys-pass-requires
+    greys-requires
     may-name-requires
     frees-pass-requires
     returns
