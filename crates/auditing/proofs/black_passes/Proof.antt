@@ -6,7 +6,7 @@ use Rattle.auditing.proofs.black_passes.Statement.{statement}
 use Rattle.auditing.proofs.black_passes.Tie as tie
 
 may-be-black-requires : tie.Need-may-be-black-requires
-may-be-black-requires c κs = search needs
+may-be-black-requires c κs = tt
 
 may-name-all-requires : tie.Need-may-name-all-requires
 may-name-all-requires c κs = search needs

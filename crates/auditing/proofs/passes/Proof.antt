@@ -8,7 +8,7 @@ use Rattle.auditing.proofs.passes.Statement.{statement}
 use Rattle.auditing.proofs.passes.Tie as tie
 
 entry-requires : tie.Need-entry-requires
-entry-requires c κs = search needs
+entry-requires c κs = tt
 
 blocks-pass-requires : tie.Need-blocks-pass-requires
 blocks-pass-requires c κs = entry-ready _ (so (c .before .entry .ensures) (c .if1 .taken))

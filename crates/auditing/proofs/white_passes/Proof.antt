@@ -7,7 +7,7 @@ use Rattle.auditing.proofs.white_passes.Statement.{statement}
 use Rattle.auditing.proofs.white_passes.Tie as tie
 
 doomed-white-requires : tie.Need-doomed-white-requires
-doomed-white-requires c κs = search needs
+doomed-white-requires c κs = tt
 
 returns : tie.Need-returns
 returns c = white-doomed _ _ _ _ _ (so (c .before .doomed-white .ensures _ refl refl) (c .if1 .taken))

@@ -4,7 +4,7 @@ use Rattle.dergamoyne.proofs.dergamoyne_audit.Statement.{statement}
 use Rattle.dergamoyne.proofs.dergamoyne_audit.Tie as tie
 
 audit-requires : tie.Need-audit-requires
-audit-requires c κs = search needs
+audit-requires c κs = tt
 
 returns : tie.Need-returns
 returns c = c .audit .ensures

@@ -1,10 +1,11 @@
 -- `dergamoyne::dergamoyne_export` meets its contract, which is the core's. Assumes nothing.
+use mathlib.Core.Path.{refl}
 use borrow.Author.Needs.{needs}
 use Rattle.dergamoyne.proofs.dergamoyne_export.Statement.{statement}
 use Rattle.dergamoyne.proofs.dergamoyne_export.Tie as tie
 
 export-numbers-requires : tie.Need-export-numbers-requires
-export-numbers-requires c κs = search needs
+export-numbers-requires c κs = tt
 
 same-length : tie.Need-same-length
 same-length c = search needs

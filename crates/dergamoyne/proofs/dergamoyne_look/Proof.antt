@@ -6,7 +6,7 @@ use Rattle.dergamoyne.proofs.dergamoyne_look.Statement.{statement}
 use Rattle.dergamoyne.proofs.dergamoyne_look.Tie as tie
 
 entry-requires : tie.Need-entry-requires
-entry-requires c κs = search needs
+entry-requires c κs = tt
 
 read-refusal-after-requires : tie.Need-read-refusal-after-requires
 read-refusal-after-requires c κs = c .entry .ensures

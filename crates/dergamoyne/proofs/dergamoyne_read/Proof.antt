@@ -4,7 +4,7 @@ use Rattle.dergamoyne.proofs.dergamoyne_read.Statement.{statement}
 use Rattle.dergamoyne.proofs.dergamoyne_read.Tie as tie
 
 read-requires : tie.Need-read-requires
-read-requires c κs = search needs
+read-requires c κs = tt
 
 returns : tie.Need-returns
 returns c = c .read .ensures

@@ -1,11 +1,12 @@
 -- `dergamoyne::dergamoyne_store_number` meets its contract: the core's, and that it keeps the registers. Assumes nothing.
+use mathlib.Core.Path.{refl}
 use borrow.Author.Needs.{needs}
 use Rattle.dergamoyne.proofs.Keeping.{number-keeps}
 use Rattle.dergamoyne.proofs.dergamoyne_store_number.Statement.{statement}
 use Rattle.dergamoyne.proofs.dergamoyne_store_number.Tie as tie
 
 store-number-requires : tie.Need-store-number-requires
-store-number-requires c κs = search needs
+store-number-requires c κs = tt
 
 same-length : tie.Need-same-length
 same-length c = search needs
