@@ -1,4 +1,4 @@
-// The audit: 1 for a well-formed heap, else 0. It reads each block a fixed number of times and keeps no memory of its own.
+// The audit: 1 for a well-formed heap, else 0. Its cost is linear in M, and it keeps no memory of its own.
 use blocks::Answer;
 use blocks::Colour;
 use blocks::Regs;
@@ -7,7 +7,6 @@ ghost use mathlib.Core.List.{List};
 ghost use mathlib.Core.Bool.{true};
 ghost use Prim.Native.Nat.{ℕ, _≤_};
 ghost use lib.ListN.{length};
-ghost use Rattle.blocks.specs.declared.Regs.{Regs};
 ghost use Rattle.blocks.specs.declared.Colour.the-variants.{White, Grey, Black, Free};
 ghost use mathlib.Core.Logic.{_↔_};
 ghost use Rattle.blocks.specs.WellFormed.{Block, WellFormed};
@@ -131,7 +130,7 @@ fn greys(r: Regs, colours: &[u32]) -> bool
     colours::layout::greys_pass(r.blocks, r.grey, colours)
 }
 
-// Whether the heap is well-formed. A block whose colour is legal is all that passes, so legal colours are not looked for apart.
+// Whether the heap is well-formed. Only a block whose colour is legal passes, so legal colours are not looked for apart.
 fn passes(r: Regs, words: &[u32], colours: &[u32], bytes: &[u8]) -> bool
     ensures { λ t. ⌜ t ≡ passes (heap r (now (words .entry)) (now (colours .entry)) (now (bytes .entry))) ⌝ }
 {

@@ -1,16 +1,14 @@
 -- A block's eight words as a part of the word buffer that is lent, and as it comes back.
 --     part-is              the part that is lent is the block's eight words
---     part-length          it has eight words
 --     back-is              the buffer when the part is back, with other words in it
 -- Assumes nothing.
-use Prim.Native.Nat.{ℕ, _+_, _-_, _*_}
+use Prim.Native.Nat.{ℕ, _+_, _-_}
 use mathlib.Core.Path.{_≡_, refl}
 use mathlib.Core.List.{List, _++_}
 use native.Mathlib.Omega.{arith}
-use lib.ListN.{length, take, drop, length-take, length-drop}
+use lib.ListN.{take, drop}
 use lib.Seq.{drop-drop}
 use Rattle.blocks.specs.Block.{base, eightWords, withEight}
-use Rattle.blocks.specs.WellFormed.{Block}
 
 module _ (ws : List ℕ) (b : ℕ) where
   pub part-is : take (base b + 8 - base b) (drop (base b) ws) ≡ eightWords ws b
@@ -22,6 +20,3 @@ module _ (ws : List ℕ) (b : ℕ) where
   back-is e =
       let n : base b + 8 - base b ≡ 8 = omega arith in
       rw (e, n, drop-drop) refl
-
-  pub part-length : (m : ℕ) → Block m b → length ws ≡ 8 * m → length (take (base b + 8 - base b) (drop (base b) ws)) ≡ 8
-  part-length m l e = simp (length-take, length-drop) (omega arith)

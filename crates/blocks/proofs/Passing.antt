@@ -6,7 +6,6 @@
 --     named-not, named-strictly, named-loosely     the three ways of mayBeNamed
 --     name-none, name-no, name-as                  the three ways of mayName
 --     white-doomed, white-as, grey-off, grey-named, black-off, black-as, freed-off, freed-as     two ways for each colour
---     eight-words                                  a block's words, as a part of the word buffer
 --     block-as                                     a block, by its colour
 --     layout-greys, layout-plain                   where every block passes: the layout's part is the grey list's, and holds outside marking
 --     entry-no, blocks-fail, layout-off, root-off, passes-as     the five ways of passes
@@ -20,7 +19,7 @@ use mathlib.Core.List.{List}
 use borrow.Author.Tests.{eq-eqb, ne-eqb}
 use native.Mathlib.Omega.{arith}
 use lib.Dec.{eqb}
-use lib.ListN.{getD, take, drop}
+use lib.ListN.{getD}
 use Rattle.blocks.specs.declared.Regs.{Regs}
 use Rattle.blocks.specs.declared.Colour.{Colour}
 use Rattle.blocks.specs.declared.Colour.the-variants.{White, Grey, Black, Free, Outside}
@@ -134,10 +133,6 @@ module _ (r : Regs) (cs part : List ℕ) (byte b : ℕ) where
   pub freed-as : (t : Bool) → byte ≡ 0 → t ≡ zeroFrom 7 1 part → t ≡ colourPasses r cs part byte b Free
   unfolding colourPasses
   freed-as t e a = rw (a, eq-eqb byte 0 e) refl
-
-pub eight-words : (ws : List ℕ) (b : ℕ) → take (base b + 8 - base b) (drop (base b) ws) ≡ eightWords ws b
-unfolding eightWords
-eight-words ws b = let e : base b + 8 - base b ≡ 8 = omega arith in rw e refl
 
 module _ (h : Heap) where
   pub block-as :

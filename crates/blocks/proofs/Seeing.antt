@@ -13,15 +13,13 @@ use native.Mathlib.Omega.{arith}
 use lib.Dec.{eqb}
 use lib.ListN.{length}
 use lib.Seq.{getD-set-same, getD-set-other}
-use borrow.Author.Tests.{eq-eqb, ne-eqb, eqb-true}
+use borrow.Author.Tests.{ne-eqb, eqb-true}
 use Rattle.blocks.specs.declared.Colour.{Colour}
 use Rattle.blocks.specs.declared.Colour.the-variants.{White, Grey, Black, Free, Outside}
 use Rattle.blocks.specs.declared.Seen.{Seen}
 use Rattle.blocks.specs.declared.Seen.the-variants.{Settled, ToGrey, Damaged}
-use Rattle.blocks.specs.Tests.{if_then_else_}
 use Rattle.blocks.specs.Block.{isBlock}
 use Rattle.blocks.specs.Colouring.{Colouring, white, black, freed, colour, colourWord, toBlack, greyWhite, greyAll, allocatedColour, isAllocated}
-use Rattle.blocks.specs.WellFormed.{Block}
 use Rattle.blocks.specs.OneUnit.{sound, allSound}
 use Rattle.blocks.specs.Seen.{seenColour, seen, seenNext, seenAll, unharmed, Named}
 use Rattle.blocks.proofs.Tests.{both-true, either-true, by-test, by-eq}

@@ -1,6 +1,6 @@
 -- Laws of the stores and of Set root.
 --     unless-stops, unless-passes     the two ways of unless
---     barrier-on, barrier-off         the two ways of the barrier
+--     barrier-on, barrier-off         the two ways of the barrier.        barrier-grey     of the registers it changes the grey head alone
 --     number-put, reference-put       a word and its bit written
 --     number-refused, reference-refused, root-refused     the calls, refused
 --     number-stored, reference-stored, root-set     the calls, where nothing refuses
@@ -117,9 +117,9 @@ pub word-writable : {h : Heap} {b w : ℕ} → Readable h b w → (length (h .wo
 word-writable d = (omega arith, record { low = d .block .low; high = omega arith }, d .low)
 
 -- ---- what is kept of the registers
-barrier-keeps : (t : ℕ) (h : Heap) → withGrey (barrier t h .regs .grey) (h .regs) ≡ barrier t h .regs
+pub barrier-grey : (t : ℕ) (h : Heap) → withGrey (barrier t h .regs .grey) (h .regs) ≡ barrier t h .regs
 unfolding barrier
-barrier-keeps t h = go (eqb (h .regs .phase) marking)
+barrier-grey t h = go (eqb (h .regs .phase) marking)
   where
     greyed : Heap
     greyed = withColouring (greyWhite (h .regs .blocks) t (colouring h)) h
@@ -137,7 +137,7 @@ module _ (t : ℕ) (h : Heap) where
       given x = if x then done 0 (putReference b w t (barrier t h)) else refuse (storeRefusal b w t h) h
 
       go : (x : Bool) → withGrey (given x .heap .regs .grey) (h .regs) ≡ given x .heap .regs
-      go true = barrier-keeps t h
+      go true = barrier-grey t h
       go false = refl
 
   pub root-keeps : withRoot (setRoot t h .heap .regs .root) (withGrey (setRoot t h .heap .regs .grey) (h .regs)) ≡ setRoot t h .heap .regs
@@ -148,5 +148,5 @@ module _ (t : ℕ) (h : Heap) where
       given x = if x then done 0 (withRegs (withRoot t (barrier t h .regs)) (barrier t h)) else refuse (rootRefusal t h) h
 
       go : (x : Bool) → withRoot (given x .heap .regs .root) (withGrey (given x .heap .regs .grey) (h .regs)) ≡ given x .heap .regs
-      go true = ap (withRoot t) (barrier-keeps t h)
+      go true = ap (withRoot t) (barrier-grey t h)
       go false = refl

@@ -1,7 +1,7 @@
 -- That no second outcome fits a contract.
 -- Each public call's contract is one equation: what the result and the buffers at exit make up, `≡` the machine's function at the
 -- arguments and the heap at entry. Two outcomes that both fit are then the same.
---     Same, ReadSame, LookSame     two outcomes of a call are the same: the result, and every buffer afterwards
+--     Same                         two outcomes of a call are the same: the result, and every buffer afterwards
 --     Only, OnlyRead, OnlyAudit, OnlyLook     no second outcome fits the equation with what is given
 --     NoSecondOutcome              none for any of the nine calls, on any arguments and any heap
 -- Assumes nothing.

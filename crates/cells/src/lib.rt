@@ -1,7 +1,7 @@
 // A block's words and its reference byte. The reference bytes are written by set_bit, clear_bit, clear_byte and fresh alone.
 ghost use mathlib.Core.Path.{_≡_};
-ghost use Prim.Native.Nat.{_≤_, _<_};
-ghost use lib.ListN.{length, set, replicate};
+ghost use Prim.Native.Nat.{_<_};
+ghost use lib.ListN.{length, replicate};
 ghost use Rattle.blocks.specs.WellFormed.{Block};
 ghost use Rattle.blocks.specs.Block.{bit, setBit, clearBit, clearByte, freeWords};
 

@@ -1,5 +1,6 @@
 // The tests before a call does anything: refusals 1 to 4 by numbers alone, then 8, 5 and 6 by a block's colour.
-// Each answers the refusal number, or 0. Then the two ways in which a call that does no units gives back its answer.
+// Each answers the refusal number, or 0. Then how a call gives back its answer: answered, and for a call that did
+// no units refused and done.
 use blocks::Answer;
 use blocks::Colour;
 use blocks::Outcome;

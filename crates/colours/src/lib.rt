@@ -1,4 +1,5 @@
-// The colour buffer: what a colour word means, and the grey list. Only this crate reads or writes a colour word.
+// The colour buffer: what a colour word means, and the grey list. Of the calls' code only
+// this crate reads or writes a colour word; stepping::step is told one and knows its values.
 pub mod layout; // layout.rt: what the audit asks of the colours and of the grey list
 
 use blocks::Colour;
@@ -6,10 +7,10 @@ use blocks::Seen;
 ghost use mathlib.Core.Path.{_≡_};
 ghost use mathlib.Core.Logic.{_≢_};
 ghost use Prim.Native.Nat.{_≤_};
-ghost use lib.ListN.{length, replicate};
+ghost use lib.ListN.{length};
 ghost use Rattle.blocks.specs.WellFormed.{Block};
 ghost use Rattle.blocks.specs.Block.{isBlock};
-ghost use Rattle.blocks.specs.Colouring.{Colouring, colour, colourWord, paint, toGrey, toBlack, greyWhite, freeColour, freshColours};
+ghost use Rattle.blocks.specs.Colouring.{colour, colourWord, paint, toGrey, toBlack, greyWhite, freeColour, freshColours};
 ghost use Rattle.blocks.specs.Seen.{seen};
 ghost use Rattle.blocks.specs.Tests.{if_then_else_};
 

@@ -22,7 +22,7 @@ use mir.Raw.{raw as rawTy}
 use prog.Wp.{Heap, Env, Calls, Loops, noLocal}
 use ghost.Atoms.{Atoms}
 use types.Kit.{Given, Item, ‵, Post, runs, Seq, _$_, rewrite}
-use types.Run.{look, look-raw, store-raw, stop, hop, fld, load, of-opd, assigns}
+use types.Run.{look, store-raw, stop, hop, fld, load, of-opd, assigns}
 use types.Part.{whole, sub, look-in, store-in}
 use denote.Memory.{pointee}
 use denote.Laws.{Is}

@@ -24,7 +24,7 @@ use contract.Monad.{fact}
 use contract.Running.{Running, GhostRules, givenOf, tables, tablesOf}
 use contract.Lifetimes.{Lfts, Shares, AllOutlive}
 use types.Kit.{Given, ‵, raw, some, later, _⊛_, ⋆, _$_, _∵_, !, qed, by, move, keep, drop, use0, use1, use2, split, join, pick, rewrite, fsplit, fsplit3, fjoin, fjoin3, feqL, feqI, suffices, frame, await, done}
-use types.Run.{look, look-raw, init, store-raw, forget, stop, hop, fld, from, load, addr, of-opd, and-then, no-more, assigns, land, returns, enter, alloc1, alloc0, params1, pass1, free1, free0}
+use types.Run.{look, look-raw, init, forget, stop, hop, fld, from, load, addr, of-opd, and-then, no-more, assigns, land, returns, enter, alloc1, alloc0, params1, pass1, free1, free0}
 use types.Part.{agg, whole, sub, look-in}
 use types.SemTy.{Body as Lent}
 use sound.WpLaws.{FmC, fmOf, WpFn-mono}
@@ -60,7 +60,7 @@ use Rattle.blocks.proofs.Outcome as O
 use Rattle.blocks.proofs.Outcome.Laws as O′
 use Rattle.lending.proofs.Numbers as Numbers
 use Rattle.lending.proofs.Numbers.{Nums, Small, slots, read, write, read-write, vals, ints}
-use Rattle.lending.proofs.Back.{tmp, the-record, Back}
+use Rattle.lending.proofs.Back.{tmp, Back}
 use Rattle.lending.proofs.Locals.{withNums, opds, allocs-nums, passes-nums, frees-nums, past, at-place, has-after, reads-nums}
 
 -- ---- the two signatures and contracts

@@ -5,14 +5,13 @@
 use Prim.Native.Nat.{ℕ, _*_, _<_}
 use mathlib.Core.Path.{_≡_, refl, sym, _∙_, ap}
 use mathlib.Core.Logic.{_≢_}
-use mathlib.Core.Bool.{Bool, true, false, _&&_}
-use mathlib.Core.List.{List, _++_}
+use mathlib.Core.Bool.{Bool, true, false}
+use mathlib.Core.List.{List}
 use native.Mathlib.Omega.{arith}
-use lib.Dec.{eqb}
-use lib.ListN.{length, take, drop, take-append-drop, length-take}
+use lib.ListN.{length, take, take-append-drop, length-take}
 use borrow.Author.Tests.{ne-eqb, lt-leb}
 use Rattle.blocks.specs.Heap.{Heap, heap}
-use Rattle.blocks.specs.Tests.{if_then_else_, _▷_}
+use Rattle.blocks.specs.Tests.{_▷_}
 use Rattle.blocks.specs.Entry.{numbersFit, lengthsFit, fits, entry}
 use Rattle.blocks.specs.Answers.{unless}
 use Rattle.blocks.specs.Format.{format}
@@ -21,12 +20,11 @@ use Rattle.blocks.specs.Store.{storeNumber, storeRefusal, storeReference, rootR
 use Rattle.blocks.specs.Allocate.{allocate}
 use Rattle.blocks.specs.Work.{work}
 use Rattle.blocks.specs.Audit.{passes, audit}
-use Rattle.lines.specs.declared.Said.{Said}
 use Rattle.lines.specs.declared.Command.{Command}
 use Rattle.lines.specs.declared.Command.the-variants.{Format, Read, StoreNumber, StoreReference, SetRoot, Allocate, Work, Audit, Broken}
 use Rattle.lines.specs.Command.{commandOf}
 use Rattle.lines.specs.Line.{Spoken, spoken, said, performed, blocksOf, front, back, within, lineGives}
-use Rattle.lines.specs.Contracts.{Same, NoSecondOutcome, Greatest, Rules}
+use Rattle.lines.specs.Contracts.{NoSecondOutcome, Greatest, Rules}
 
 pub no-second-outcome : NoSecondOutcome
 no-second-outcome text h s t ws xs cs ds bs es e f =

@@ -5,12 +5,11 @@
 -- Assumes nothing.
 use Prim.Native.Nat.{ℕ, _+_, _≤_, _<_}
 use mathlib.Core.Path.{_≡_, refl, sym, _∙_, ap}
-use mathlib.Core.Bool.{Bool, true, false, _&&_}
+use mathlib.Core.Bool.{Bool, true, false}
 use mathlib.Core.List.{List, [], _∷_, _++_, append-assoc, append-nil}
-use native.Mathlib.Omega.{arith}
 use lib.ListN.{length, getD, drop}
 use Rattle.blocks.specs.Tests.{if_then_else_}
-use Rattle.blocks.proofs.Tests.{by-test}
+use Rattle.blocks.proofs.Steps.{never}
 use Rattle.texts.specs.declared.Cursor.{Cursor}
 use Rattle.texts.specs.declared.Number.{Number}
 use Rattle.texts.specs.declared.Number.the-variants.{Whole, Broken}
@@ -40,9 +39,6 @@ pub record Found (text : List ℕ) (at v : ℕ) (end : Cursor) : Type 0 where
   pub number : isNumber (piece (drop at text)) ≡ true
   pub worth : v ≡ value 0 (piece (drop at text))
   pub reached : end .at ≡ at + length (piece (drop at text))
-
-never : {A : Type 0} → _≡_ {A = ℕ} 0 1 → A
-never e = absurd (omega arith)
 
 pub found : (text : List ℕ) (at v : ℕ) (end : Cursor) (r : Number) → r ≡ numberAt text at → r ≡ Whole v end → Found text at v end
 unfolding numberAt

@@ -4,15 +4,15 @@
 --     named-off, named-on  a letter with something else than numbers, with numbers
 -- Assumes nothing.
 use Prim.Native.Nat.{ℕ, _≤_, _<_}
-use mathlib.Core.Path.{_≡_, refl, sym, _∙_, ap}
+use mathlib.Core.Path.{_≡_, refl, sym, _∙_}
 use mathlib.Core.Logic.{_≢_}
 use mathlib.Core.Bool.{Bool, true, false}
 use mathlib.Core.List.{List, [], _∷_}
 use native.Mathlib.Omega.{arith}
-use lib.Dec.{eqb, leb}
 use lib.ListN.{length, getD, drop}
 use borrow.Author.Tests.{eq-eqb, ne-eqb, le-leb, lt-leb}
 use Rattle.blocks.specs.Tests.{if_then_else_}
+use Rattle.blocks.proofs.Steps.{never}
 use Rattle.texts.specs.Numbers.{space, piece, later}
 use Rattle.lines.specs.declared.Numbers.{Numbers}
 use Rattle.lines.specs.declared.Arguments.{Arguments}
@@ -20,9 +20,6 @@ use Rattle.lines.specs.declared.Arguments.the-variants.{Are, Broken as N
 use Rattle.lines.specs.declared.Command.{Command}
 use Rattle.lines.specs.declared.Command.the-variants.{Broken}
 use Rattle.lines.specs.Command.{allNumbers, values, packed, argumentsOf, meant, named, commandOf}
-
-never : {A : Type 0} → _≡_ {A = ℕ} 0 1 → A
-never e = absurd (omega arith)
 
 pub too-long : (text : List ℕ) → 40 < length text → Broken ≡ commandOf text
 unfolding commandOf

@@ -2,7 +2,6 @@
 -- lines and of lines before a first F.
 --     NoSecondOutcome      two outcomes that fit what a line gives are the same
 --     Greatest h           the lent buffers are those of 1,024 blocks
---     Fresh h              the registers are all 0
 --     Rules                the sentences of document 01
 -- Assumes nothing.
 use Prim.Native.Nat.{ℕ, _<_}

@@ -10,7 +10,7 @@ ghost use mathlib.Core.Path.{_≡_};
 ghost use mathlib.Core.List.{List, [], _∷_, _++_};
 ghost use Prim.Native.Nat.{ℕ, _<_, min};
 ghost use lib.ListN.{length, getD, drop};
-ghost use Rattle.blocks.specs.Heap.{Heap, heap};
+ghost use Rattle.blocks.specs.Heap.{heap};
 ghost use Rattle.blocks.specs.Answers.{Given, ReadGiven};
 ghost use Rattle.texts.specs.Numbers.{space, later};
 ghost use Rattle.lines.specs.Command.{packed, argumentsOf, meant, commandOf};

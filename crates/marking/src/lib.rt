@@ -16,7 +16,7 @@ ghost use Rattle.blocks.specs.Tests.{if_then_else_};
 ghost use Rattle.blocks.specs.Registers.{marking};
 ghost use Rattle.blocks.specs.WellFormed.{Block};
 ghost use Rattle.blocks.specs.Block.{references};
-ghost use Rattle.blocks.specs.Colouring.{Colouring, greyWhite, greyAll};
+ghost use Rattle.blocks.specs.Colouring.{greyWhite, greyAll};
 ghost use Rattle.blocks.specs.Heap.{heap};
 ghost use Rattle.blocks.specs.Ready.{Ready};
 ghost use Rattle.blocks.specs.Seen.{seen, seenAll, Named};

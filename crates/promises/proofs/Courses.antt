@@ -3,7 +3,7 @@
 --     deeds-run                allowed deeds are one
 --     deeds-formed             they leave a well-formed heap well-formed
 --     allowed-left, allowed-right     parts of allowed deeds are allowed
---     session-is, session-allowed     a session without reset is its deeds, each of them allowed
+--     session-is               a session without reset is its deeds, each of them allowed
 -- Assumes nothing.
 use Prim.Native.Nat.{ℕ, _+_}
 use mathlib.Core.Path.{_≡_, refl, sym, _∙_, ap, subst}

@@ -8,10 +8,9 @@ use Prim.Native.Nat.{ℕ, _≤_}
 use mathlib.Core.Path.{_≡_, refl, sym, _∙_, ap, subst}
 use mathlib.Core.Logic.{_≢_}
 use mathlib.Core.List.{[]}
-use native.Mathlib.Omega.{arith}
 use lib.Dec.{eqb}
 use Rattle.blocks.specs.declared.Regs.{Regs}
-use Rattle.blocks.specs.Registers.{idle}
+use Rattle.blocks.specs.Registers.{idle, withGrey, withRoot}
 use Rattle.blocks.specs.Heap.{Heap}
 use Rattle.blocks.specs.Store.{barrier, putNumber, putReference}
 use Rattle.blocks.specs.Allocate.{taken, held}
@@ -31,6 +30,8 @@ use Rattle.promises.specs.Deeds.{Deed, aUnit, aNumber, aReference, aRoot
 use Rattle.promises.specs.Sessions.{Begins, marking?}
 use Rattle.promises.proofs.Viewing.{wf-shape, wf-sound, shape-wf}
 use Rattle.promises.proofs.UnitMoves.{unit-goes}
+use Rattle.blocks.proofs.Steps.{never}
+use Rattle.blocks.proofs.Storing.{barrier-grey}
 use Rattle.promises.proofs.StoringMoves.{number-move, number-shape, reference-move, reference-shape, root-move, root-shape}
 use Rattle.promises.proofs.TakingMoves.{take-root, take-held, take-shape}
 
@@ -48,9 +49,8 @@ pub record DeedMove (m : ℕ) (h : Heap) (d : Deed) : Type 0 where
   pub marks : marked move ≡ marking? d h
 
 -- the barrier keeps M and the pace
-pub barrier-keeps : (f : Regs → ℕ) → ((g : ℕ) (r : Regs) → f (record { blocks = r .blocks; pace = r .pace; phase = r .phase; grey = g; free = r .free; count = r .count; position = r .position; root = r .root; cycle = r .cycle }) ≡ f r) → (t : ℕ) (h : Heap) → f (barrier t h .regs) ≡ f (h .regs)
-unfolding barrier
-barrier-keeps f same t h = if-ind (λ (k : Heap). f (k .regs) ≡ f (h .regs)) (eqb (h .regs .phase) 1) (λ e. same _ (h .regs)) (λ e. refl)
+pub barrier-keeps : (f : Regs → ℕ) → ((g : ℕ) (r : Regs) → f (withGrey g r) ≡ f r) → (t : ℕ) (h : Heap) → f (barrier t h .regs) ≡ f (h .regs)
+barrier-keeps f same t h = ap f (sym (barrier-grey t h)) ∙ same _ (h .regs)
 
 -- a unit names nothing, takes nothing and writes no word of a live block
 record Plain {M : ℕ} {h k : Abs} (m : Move M h k) : Type 0 where
@@ -58,19 +58,16 @@ record Plain {M : ℕ} {h k : Abs} (m : Move M h k) : Type 0 where
   taking : taking m ≡ []
   writes : (b w : ℕ) → Writes m b w → ⊥
 
-never-unit : {A : Type 0} → _≡_ {A = ℕ} 0 1 → A
-never-unit e = absurd (omega arith)
-
 unit-plain : {M : ℕ} {h k : Abs} (m : Move M h k) → cost m ≡ 1 → Plain m
 unit-plain (begin m) e = record { target = refl; taking = refl; writes = λ b w x. x }
 unit-plain (mark b m) e = record { target = refl; taking = refl; writes = λ b w x. x }
 unit-plain (turn m) e = record { target = refl; taking = refl; writes = λ b w x. x }
 unit-plain (sweep m) e = record { target = refl; taking = refl; writes = λ b w x. x }
-unit-plain (writeNumber b w v m) e = never-unit e
-unit-plain (writeRef b w t m) e = never-unit e
-unit-plain (setRoot t m) e = never-unit e
-unit-plain (takeHeld x b w m) e = never-unit e
-unit-plain (takeRoot x m) e = never-unit e
+unit-plain (writeNumber b w v m) e = never e
+unit-plain (writeRef b w t m) e = never e
+unit-plain (setRoot t m) e = never e
+unit-plain (takeHeld x b w m) e = never e
+unit-plain (takeRoot x m) e = never e
 
 -- a unit on a heap that isn't idle begins nothing
 idle-begins : {M : ℕ} {h k : Abs} (m : Move M h k) → (h .phase ≡ idle → ⊥) → begun m ≡ 0
@@ -81,7 +78,7 @@ taken-kept : {M x : ℕ} {h k : Abs} → Taken M x h k → (c : ℕ) → sums.Bl
 taken-kept {x} {h} t c l n e = by-eq c x (λ z. n (ap (h .tint) z ∙ t .free)) (λ o. n (sym (t .tints c l o) ∙ e))
 
 -- taking and holding keep M and the pace
-held-keeps : (f : Regs → ℕ) → ((x : ℕ) (r : Regs) → f (record { blocks = r .blocks; pace = r .pace; phase = r .phase; grey = r .grey; free = r .free; count = r .count; position = r .position; root = x; cycle = r .cycle }) ≡ f r) → (b w x : ℕ) (h : Heap) → f (held b w x h .regs) ≡ f (h .regs)
+held-keeps : (f : Regs → ℕ) → ((x : ℕ) (r : Regs) → f (withRoot x r) ≡ f r) → (b w x : ℕ) (h : Heap) → f (held b w x h .regs) ≡ f (h .regs)
 unfolding held putReference
 held-keeps f same b w x h = if-ind (λ (k : Heap). f (k .regs) ≡ f (h .regs)) (eqb b 0) (λ e. same x (h .regs)) (λ e. refl)
 
@@ -90,7 +87,7 @@ unfolding deed putNumber putReference taken
 deed-move h p s aUnit a =
     let g = unit-goes h p s in
     let q = unit-plain (g .move) (g .unit) in
-    record { blocks = g .blocks; pace = g .pace; move = g .move; shape = g .shape; cost = g .unit; target = q .target; taking = q .taking; writes = q .writes; frees = λ z. never-unit (sym z); begins = idle-begins (g .move); marks = g .marks }
+    record { blocks = g .blocks; pace = g .pace; move = g .move; shape = g .shape; cost = g .unit; target = q .target; taking = q .taking; writes = q .writes; frees = λ z. never (sym z); begins = idle-begins (g .move); marks = g .marks }
 deed-move h p s (aNumber b w v) a =
     record {
       blocks = refl;

@@ -12,10 +12,10 @@ use mathlib.Core.Logic.{_≢_, ⊎-elim}
 use mathlib.Core.Bool.{Bool, true, false, _&&_, _||_, not, true≢false}
 use mathlib.Core.List.{List, [], _∷_, _++_, List·Memᴰ, List·Memᴰ·head, List·Memᴰ·tail, List·Memᴰ·not-nil, List·Memᴰ·cases-cons, List·Memᴰ·eq-of-singleton}
 use native.Mathlib.Omega.{arith}
-use lib.Dec.{eqb, leb}
-use lib.ListN.{length, replicate}
-use borrow.Author.Tests.{eqb-true, ne-eqb}
-use Rattle.blocks.specs.Tests.{if_then_else_, _▷_}
+use lib.Dec.{eqb}
+use lib.ListN.{replicate}
+use borrow.Author.Tests.{eqb-true}
+use Rattle.blocks.specs.Tests.{_▷_}
 use Rattle.blocks.specs.declared.Colour.the-variants.{White, Free}
 use Rattle.blocks.specs.Registers.{idle, marking, sweeping}
 use Rattle.blocks.specs.Block.{isBlock, eightWords, withEight, bit, withBit, withoutBit, referencesFrom}
@@ -30,16 +30,16 @@ use Rattle.blocks.specs.Format.{freeList, formatted}
 use Rattle.blocks.specs.Store.{barrier, putReference, storeRefusal, storeReference}
 use Rattle.blocks.specs.Allocate.{unitsDue, firstFits, listRefusal, newColour, taken, held, takeRefusal, allocated, allocate}
 use Rattle.blocks.specs.Work.{countRefusal, work}
-use Rattle.blocks.specs.Session.{Call, does, session, lastOf}
-use Rattle.blocks.specs.Session.Call.{StoreReference, Allocate, Work}
-use Rattle.blocks.specs.WellFormed.{Block, Names}
+use Rattle.blocks.specs.Session.{does, session, lastOf}
+use Rattle.blocks.specs.Session.Call.{Allocate, Work}
+use Rattle.blocks.specs.WellFormed.{Block}
 use Rattle.blocks.proofs.Tests.{both-true, either-true, if-ind, clash}
 use Rattle.meaning.proofs.Words.{names-member}
 use Rattle.promises.specs.Reachable.{Reachable, isRoot, isNamed, IsFree}
-use Rattle.promises.specs.Deeds.{Deed, aUnit, aReference, aTake, deeds, deed, after}
+use Rattle.promises.specs.Deeds.{Deed, aUnit, deeds, deed, after}
 use Rattle.promises.specs.Sessions.{NoReset, sessionDeeds, Proper, NoBegin, FreedBy, now, later}
-use Rattle.promises.specs.Demand3.{cycles, Few, Good, Premises}
-use Rattle.promises.specs.Instances.{fresh, leaving, before, left, plain, Freed, saving, Survives, HandArithmetic, within, allWithin, namesWithin, closes, pair, goesOn, works, churn, byTurns, rooted, long, Roomy}
+use Rattle.promises.specs.Demand3.{cycles, Good, Premises}
+use Rattle.promises.specs.Instances.{fresh, leaving, before, left, plain, Freed, Survives, HandArithmetic, within, allWithin, namesWithin, closes, pair, goesOn, works, churn, byTurns, rooted, long, Roomy}
 use Rattle.promises.proofs.FreshHeap.{fresh-formed}
 use Rattle.promises.proofs.Collecting.{garbage-goes}
 use Rattle.promises.proofs.Rooming.{room-enough, margin}

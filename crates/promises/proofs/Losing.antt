@@ -1,7 +1,7 @@
 -- Nothing reachable is lost: no call frees a block reachable before it, and only the word that it names changes.
 --     Tame ds                  deeds of which all but the last are units: a call's are
 --     reachable-live           on a well-formed heap a reachable block is live
---     unit-reachable           a unit leaves what is reachable reachable
+--     unit-reachable, unit-reached     a unit leaves what is reachable reachable, and makes nothing else so
 --     tame-kept, tame-same     such deeds free no block reachable before them, and leave its untouched words
 --     nothing-lost             the promise
 -- Assumes nothing.

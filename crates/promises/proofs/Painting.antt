@@ -1,26 +1,20 @@
 -- What a store into a buffer leaves of each block's colour, words and byte.
---     by-le                    a case split on whether a number is at most another
 --     painted, unpainted       the colour word of the block painted, and of any other
 --     byte-set, byte-kept      the same of a reference byte
 --     word-set, word-kept      the same of a word
 --     eight-set, eight-kept    the same of a block's eight words
 -- Assumes nothing.
-use Prim.Native.Nat.{ℕ, _+_, _-_, _*_, _≤_, _<_}
+use Prim.Native.Nat.{ℕ, _+_, _-_, _*_, _≤_}
 use mathlib.Core.Path.{_≡_, sym, _∙_, ap}
 use mathlib.Core.Logic.{_≢_, _⊎_, ⊎-elim}
 use mathlib.Core.List.{List, _++_}
 use native.Mathlib.Omega.{arith}
-use lib.Dec.{leb}
-use borrow.Author.Tests.{leb-true, leb-false}
 use lib.ListN.{length, getD, set, take, drop, List·getD-append}
 use lib.Seq.{getD-set-same, getD-set-other, getD-take, getD-drop, getD-append-add, length-take-le}
 use Rattle.blocks.specs.Block.{index, base, place, wordOf, byteOf, withEight}
 use Rattle.blocks.specs.Colouring.{colourWord, paint}
 use Rattle.blocks.specs.WellFormed.{Block}
-use Rattle.blocks.proofs.Tests.{by-test}
-
-pub by-le : {A : Type 0} (a b : ℕ) → (a ≤ b → A) → (b < a → A) → A
-by-le a b p q = by-test (leb a b) (λ e. p (leb-true a b e)) (λ e. q (leb-false a b e))
+use Rattle.reach.specs.Splits.{by-le}
 
 module _ {m : ℕ} {b : ℕ} (l : Block m b) where
   pub painted : (cs : List ℕ) (w : ℕ) → length cs ≡ m → colourWord (paint b w cs) b ≡ w

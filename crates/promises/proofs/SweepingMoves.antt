@@ -20,7 +20,7 @@ use borrow.Author.Tests.{eq-eqb, ne-eqb, leb-true}
 use Rattle.blocks.specs.declared.Regs.{Regs}
 use Rattle.blocks.specs.declared.Colour.{Colour}
 use Rattle.blocks.specs.declared.Colour.the-variants.{White, Black, Free, Outside}
-use Rattle.blocks.specs.Registers.{idle, marking, sweeping, withFree, withCount, sweepEnd}
+use Rattle.blocks.specs.Registers.{idle, marking, sweeping, withPhase, withPosition, withFree, withCount, sweepEnd}
 use Rattle.blocks.specs.Block.{wordOf, byteOf, bit, withEight, freeWords, clearByte}
 use Rattle.blocks.specs.Colouring.{white, freed, colour, colourWord, paint}
 use Rattle.blocks.specs.Heap.{Heap, heap, colouring, colourOf}
@@ -47,7 +47,7 @@ pair : {a b c d : ℕ} → a ≡ b → c ≡ d → _≡_ {A = ℕ × ℕ} (a, c)
 pair p q = λ i. (p i, q i)
 
 -- what advance keeps
-pub advance-same : {A : Type 0} (f : Regs → A) (r : Regs) → ((p q : ℕ) (s : Regs) → f (record { blocks = s .blocks; pace = s .pace; phase = p; grey = s .grey; free = s .free; count = s .count; position = q; root = s .root; cycle = s .cycle }) ≡ f s) → f (advance r) ≡ f r
+pub advance-same : {A : Type 0} (f : Regs → A) (r : Regs) → ((p q : ℕ) (s : Regs) → f (withPosition q (withPhase p s)) ≡ f s) → f (advance r) ≡ f r
 unfolding advance
 advance-same f r same = if-ind (λ (s : Regs). f s ≡ f r) (eqb (r .position) (sweepEnd r)) (λ e. same idle 0 r) (λ e. same (r .phase) (r .position + 1) r)
 

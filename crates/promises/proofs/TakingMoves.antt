@@ -43,7 +43,8 @@ use Rattle.moves.specs.Moves.{SameCells, Fresh, newMarking, newAhead, newBehind
 use Rattle.promises.specs.View.{tintOf, view, Shape}
 use Rattle.promises.proofs.Viewing.{here, there, live-view}
 use Rattle.promises.proofs.Chains.{chain-pop, pop-length}
-use Rattle.promises.proofs.Painting.{by-le, painted, unpainted, word-set, word-kept}
+use Rattle.reach.specs.Splits.{by-le}
+use Rattle.promises.proofs.Painting.{painted, unpainted, word-set, word-kept}
 use Rattle.promises.proofs.Greys.{plain-list}
 use Rattle.promises.proofs.Recolouring.{greys-of, of-greys, recoloured}
 use Rattle.promises.proofs.StoringMoves.{word-as, cells-join, holds-after, written-shape, written-holds, written-others, live-taken}

@@ -1,6 +1,6 @@
 -- A heap is well-formed exactly where its view is sound and its shape is right.
 --     here, there              block numbers as the machine and as the abstract collector have them
---     tint-is, colour-is       a block's colour and its tint
+--     colour-is                a block's colour, by its tint
 --     live-view, view-live     live in the machine and in the view
 --     names-ref, ref-names     what a block names, in the machine and in the view
 --     wf-shape, wf-sound, shape-wf     the two halves of well-formed, and back

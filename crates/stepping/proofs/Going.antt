@@ -6,7 +6,7 @@
 --     left-first, left-on, left-out, left-off     what is left at first, over a stretch, and at the end
 --     due, due-less                a stretch leaves less to do
 -- Assumes nothing.
-use Prim.Native.Nat.{ℕ, zero, suc, _+_, _-_, _≤_, _<_}
+use Prim.Native.Nat.{ℕ, suc, _+_, _-_, _≤_, _<_}
 use mathlib.Core.Path.{_≡_, refl, sym, _∙_, ap}
 use mathlib.Core.Logic.{_≢_}
 use mathlib.Core.List.{List}

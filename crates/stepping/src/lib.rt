@@ -1,4 +1,5 @@
-// The step that a unit takes, which every phase's unit asks for. A unit tests everything it meets before it writes.
+// The step that a unit takes. Every unit asks for it but the one that ends marking, which collector::stretch tells by the grey head.
+// A unit tests everything it meets before it writes.
 use blocks::Step;
 ghost use mathlib.Core.Path.{_≡_};
 ghost use Prim.Native.Nat.{_≤_};

@@ -6,16 +6,13 @@
 use Prim.Native.Nat.{ℕ, zero, suc, _+_, _≤_, _<_}
 use mathlib.Core.Path.{_≡_, refl, sym, _∙_, ap}
 use mathlib.Core.Logic.{_≢_}
-use mathlib.Core.Bool.{Bool, true, false}
+use mathlib.Core.Bool.{true, false}
 use mathlib.Core.List.{List, [], _∷_, _++_, append-assoc, append-nil}
 use native.Mathlib.Omega.{arith}
 use native.Mathlib.Numerals.{add-one}
-use lib.Dec.{eqb, ltb}
 use lib.ListN.{length, getD, take, drop, set, length-append, length-take, drop-of-length-le}
-use lib.Seq.{drop-cons, take-suc-set, take-all, take-at, take-nil, length-take-le}
+use lib.Seq.{drop-cons, take-suc-set, take-all, take-at}
 use borrow.Author.Tests.{eq-eqb, ne-eqb, lt-ltb, le-ltb}
-use Rattle.blocks.specs.Tests.{if_then_else_}
-use Rattle.streams.specs.declared.cutting.Cut.{Cut}
 use Rattle.streams.specs.Streams.{lineOf, CutOut}
 
 -- what doesn't fit is left out now or later

@@ -6,7 +6,7 @@
 --     WentOn               going on in what was read: a cut
 --     Next                 going on in what was read, or reading where nothing of it is left
 -- Assumes nothing.
-use Prim.Native.Nat.{ℕ, _+_, _≤_, _<_, min}
+use Prim.Native.Nat.{ℕ, _≤_, _<_, min}
 use mathlib.Core.Path.{_≡_}
 use mathlib.Core.Bool.{Bool, true, false}
 use mathlib.Core.List.{List}
@@ -15,7 +15,6 @@ use lib.ListN.{length, take}
 use lib.IntN.{ℤ, pos, negsuc}
 use Rattle.io.specs.Counts.{clamped}
 use Rattle.blocks.specs.Tests.{if_then_else_}
-use Rattle.streams.specs.declared.cutting.Cut.{Cut}
 use Rattle.streams.specs.declared.input.Input.{Input}
 use Rattle.streams.specs.Streams.{CutOut}
 

@@ -1,7 +1,7 @@
 // Lines out of what was read: cutting them, and the start of a text.
 // A line that runs over the edge of what was read is gone on with when more is read, so none is lost or cut there.
 ghost use mathlib.Core.Path.{_≡_};
-ghost use mathlib.Core.List.{List, [], _∷_, _++_};
+ghost use mathlib.Core.List.{[], _∷_, _++_};
 ghost use Prim.Native.Nat.{_≤_};
 ghost use lib.ListN.{length, take};
 ghost use Rattle.streams.specs.Streams.{CutOut};

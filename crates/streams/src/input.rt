@@ -2,7 +2,7 @@
 use super::cutting::cut_line;
 ghost use mathlib.Core.Path.{_≡_};
 ghost use mathlib.Core.Bool.{true, false};
-ghost use Prim.Native.Nat.{_≤_, _<_, min};
+ghost use Prim.Native.Nat.{_≤_, min};
 ghost use lib.ListN.{length};
 ghost use Rattle.streams.specs.Input.{begun, negative, readGives, WentOn, Next};
 

@@ -1,7 +1,7 @@
 // What waits to be written on standard output: bytes of a buffer. They are written out when the buffer has no room left, and at the end.
 use super::cutting::start_of;
 ghost use mathlib.Core.Path.{_≡_};
-ghost use mathlib.Core.Bool.{true, false};
+ghost use mathlib.Core.Bool.{true};
 ghost use mathlib.Core.List.{_++_};
 ghost use Prim.Native.Nat.{_+_, _≤_};
 ghost use lib.ListN.{length, take};

@@ -15,12 +15,11 @@ use mathlib.Core.List.{List, [], _∷_}
 use native.Mathlib.Omega.{arith}
 use native.Mathlib.Nat.{zero-add, add-zero}
 use native.Mathlib.Numerals.{add-one}
-use lib.Dec.{eqb, leb}
+use lib.Dec.{leb}
 use lib.ListN.{length, getD, drop, drop-of-length-le}
 use lib.Seq.{drop-cons}
 use borrow.Author.Tests.{eq-eqb, ne-eqb, le-leb, lt-leb}
 use Rattle.blocks.specs.Tests.{if_then_else_}
-use Rattle.blocks.proofs.Tests.{by-test}
 use Rattle.texts.specs.declared.Number.{Number}
 use Rattle.texts.specs.declared.Number.the-variants.{Whole, Broken}
 use Rattle.texts.specs.Numbers.{space, piece, isDigit, allDigits, value, isNumber, numberAt}

@@ -1,5 +1,6 @@
 -- `auditing::block_passes` meets its contract. Assumes nothing.
-use Rattle.blocks.proofs.Passing.{eight-words, block-as}
+use Rattle.blocks.proofs.Parts.{part-is}
+use Rattle.blocks.proofs.Passing.{block-as}
 use borrow.Author.Needs.{needs}
 use Rattle.auditing.proofs.block_passes.Statement.{statement}
 use Rattle.auditing.proofs.block_passes.Tie as tie
@@ -42,7 +43,7 @@ returns c =
     let c-word-of = c .before .before .before .before .word-of in
     let c-colour = c .before .before .before .colour in
     let c-args = c .before .before .before .before .before .before .before .before .args in
-    block-as _ _ _ _ _ _ (c-word-of .ensures) (c-colour .ensures) (eight-words (c-args .words .now) (c-args .b)) (c .colour-passes .ensures)
+    block-as _ _ _ _ _ _ (c-word-of .ensures) (c-colour .ensures) (part-is (c-args .words .now) (c-args .b)) (c .colour-passes .ensures)
 
 pub block-passes-spec : {M : Type 1} → statement M
 block-passes-spec =

@@ -1,9 +1,7 @@
 -- `collector::stretch` meets its contract: the phase's own loop, or one unit. Assumes nothing.
 use mathlib.Core.Path.{refl, _∙_, ap}
-use mathlib.Core.Logic.{_≢_}
 use native.Mathlib.Omega.{arith}
 use Rattle.blocks.specs.OneUnit.{finish, ended}
-use Rattle.blocks.proofs.Tests.{differ, agree}
 use Rattle.blocks.proofs.Running.{unit-turns}
 use borrow.Author.Needs.{needs}
 use Rattle.collector.proofs.stretch.Statement.{statement}

@@ -1,12 +1,11 @@
 -- `marking::seen_all` meets its contract: what was seen is what remains to be seen. Assumes nothing.
-use Prim.Native.Nat.{_-_, _/_, _^_, _≤_, _<_}
-use mathlib.Core.Path.{_≡_, refl, sym, _∙_, ap}
+use Prim.Native.Nat.{_-_, _/_, _^_, _≤_}
+use mathlib.Core.Path.{_≡_, refl, sym, _∙_}
 use mathlib.Core.Logic.{⊎-elim}
-use mathlib.Core.Bool.{Bool, false, true}
+use mathlib.Core.Bool.{false}
 use native.Mathlib.Omega.{arith}
-use Rattle.blocks.specs.declared.Seen.{Seen}
 use Rattle.blocks.specs.Block.{references}
-use Rattle.blocks.specs.Seen.{seenNext, seenAll}
+use Rattle.blocks.specs.Seen.{seenAll}
 use Rattle.blocks.proofs.Marking.{from, rest-first, rest-next, rest-within, references-none, seen-on, seen-end}
 use borrow.Author.Needs.{needs}
 use Rattle.marking.proofs.seen_all.Statement.{statement}
