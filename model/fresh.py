@@ -11,7 +11,7 @@ import draw
 import lines
 import probe
 
-HEAPRUN, HEAPPROBE = "target/bin/heaprun", "target/bin/heapprobe"
+HEAPRUN, HEAPPROBE = "heaprun", "heapprobe"
 
 
 def drawn(seed, count):
@@ -44,7 +44,7 @@ def first_difference(name, data, wanted, got):
 def compared(program, model, data):
     """Runs a program over the data; what to say of a difference, or None."""
     try:
-        done = subprocess.run([program], input=data, stdout=subprocess.PIPE, timeout=300)
+        done = subprocess.run(["./run", program], input=data, stdout=subprocess.PIPE, timeout=300)
     except subprocess.TimeoutExpired:
         return f"{program} does not end within 300 seconds"
     difference = first_difference(program, data, model(data), done.stdout)
