@@ -65,13 +65,25 @@ pub record Register : Type 1 where
 
 abbrev pub grey : Register
 grey = record {
-  index = 3; from = 12; get = λ r. r .grey; put = withGrey; place = refl; has = λ r. refl; sets = λ n r. refl;
+  index = 3;
+  from = 12;
+  get = λ r. r .grey;
+  put = withGrey;
+  place = refl;
+  has = λ r. refl;
+  sets = λ n r. refl;
   small = λ r is. LL.owed R.the-type R′.the-laws r _ is .1 .1 .1 .0 .1;
 }
 
 abbrev pub root : Register
 root = record {
-  index = 7; from = 28; get = λ r. r .root; put = withRoot; place = refl; has = λ r. refl; sets = λ n r. refl;
+  index = 7;
+  from = 28;
+  get = λ r. r .root;
+  put = withRoot;
+  place = refl;
+  has = λ r. refl;
+  sets = λ n r. refl;
   small = λ r is. LL.owed R.the-type R′.the-laws r _ is .1 .1 .1 .1 .1 .1 .1 .0 .1;
 }
 
