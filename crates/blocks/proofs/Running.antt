@@ -1,7 +1,9 @@
 -- Laws of one unit.
---     met-idle, met-marking, met-sweeping     the word read of the block met, in each phase
+--     met-as, met-at           the word of the block met, told from that block
+--     meets-root, meets-grey, meets-position     the block met, by the phase
+--     met-word                 the word read of the block met, in any phase
+--     met-marking, met-sweeping     the same while marking and while sweeping
 --     unit-by                  the unit is the act of the step that was picked
---     unit-turns               the unit that ends marking
 --     marks-block, sweeps-block     the block that a unit meets
 --     marking-stays            a unit that marks leaves the phase
 -- Assumes nothing.
@@ -10,6 +12,7 @@ use mathlib.Core.Path.{_≡_, refl, sym, _∙_, ap}
 use mathlib.Core.Logic.{_≢_}
 use mathlib.Core.List.{List}
 use native.Mathlib.Omega.{arith}
+use borrow.Author.Tests.{eq-eqb, ne-eqb}
 use Rattle.blocks.specs.declared.Regs.{Regs}
 use Rattle.blocks.specs.declared.Step.{Step}
 use Rattle.blocks.specs.Tests.{if_then_else_}
@@ -19,20 +22,41 @@ use Rattle.blocks.specs.Colouring.{white, colourWord}
 use Rattle.blocks.specs.Heap.{Heap, heap, referencesOf}
 use Rattle.blocks.specs.WellFormed.{Block}
 use Rattle.blocks.specs.Ready.{Ready}
-use Rattle.blocks.specs.OneUnit.{UnitEnd, step, metBlock, metWord, finish, turned, allSound, marked, act, unit}
+use Rattle.blocks.specs.OneUnit.{UnitEnd, step, metBlock, metWord, allSound, marked, act, unit}
 use Rattle.blocks.proofs.Tests.{if-ind}
 use Rattle.blocks.proofs.Blocks.{block-isBlock}
 use Rattle.blocks.proofs.Colours.{head-block}
-use Rattle.blocks.proofs.Steps.{turns, step-cases}
+use Rattle.blocks.proofs.Steps.{step-cases}
+
+-- the word read of a block is that of the block met, where it is the block met
+module _ (m : ℕ) (r : Regs) (cs : List ℕ) {b word : ℕ} (e : metBlock r ≡ b) where
+  pub met-as : word ≡ (if isBlock m b then colourWord cs b else white) → word ≡ (if isBlock m (metBlock r) then colourWord cs (metBlock r) else white)
+  met-as w = w ∙ rw e refl
+
+  pub met-at : Block m b → word ≡ colourWord cs b → word ≡ (if isBlock m (metBlock r) then colourWord cs (metBlock r) else white)
+  met-at l w = w ∙ rw e (simp (block-isBlock m b l))
+
+-- the block met, by the phase
+pub meets-root : (r : Regs) → r .phase ≡ idle → metBlock r ≡ r .root
+unfolding metBlock
+meets-root r i = simp (eq-eqb (r .phase) idle i)
+
+pub meets-grey : (r : Regs) → r .phase ≡ marking → metBlock r ≡ r .grey
+unfolding metBlock
+meets-grey r k = rw k refl
+
+pub meets-position : (r : Regs) → r .phase ≢ idle → r .phase ≢ marking → metBlock r ≡ r .position
+unfolding metBlock
+meets-position r i k = simp (ne-eqb (r .phase) idle i, ne-eqb (r .phase) marking k)
 
 module _ (r : Regs) (ws cs bs : List ℕ) where
   abbrev here : Heap
   here = heap r ws cs bs
 
   -- what was read of the block met is what the machine reads
-  pub met-idle : {word : ℕ} → r .phase ≡ idle → word ≡ (if isBlock (r .blocks) (r .root) then colourWord cs (r .root) else white) → word ≡ metWord here
-  unfolding metWord metBlock
-  met-idle i w = w ∙ rw i refl
+  pub met-word : {word : ℕ} → word ≡ (if isBlock (r .blocks) (metBlock r) then colourWord cs (metBlock r) else white) → word ≡ metWord here
+  unfolding metWord
+  met-word w = w
 
   pub met-marking : {word : ℕ} → r .phase ≡ marking → Block (r .blocks) (r .grey) → word ≡ colourWord cs (r .grey) → word ≡ metWord here
   unfolding metWord metBlock
@@ -42,15 +66,10 @@ module _ (r : Regs) (ws cs bs : List ℕ) where
   unfolding metWord metBlock
   met-sweeping p b w = w ∙ rw p (simp (block-isBlock (r .blocks) (r .position) b))
 
-  -- the unit is the act of the step that was picked, in the phase that is known
-  pub unit-by : {p word : ℕ} → r .phase ≡ p → word ≡ metWord here → {s t : Step} {e : UnitEnd} → s ≡ step (r .blocks) p (r .grey) word → s ≡ t → e ≡ act t here → e ≡ unit here
+  -- the unit is the act of the step that was picked
+  pub unit-by : {word : ℕ} → word ≡ metWord here → {s t : Step} {e : UnitEnd} → s ≡ step (r .blocks) (r .phase) (r .grey) word → s ≡ t → e ≡ act t here → e ≡ unit here
   unfolding unit
-  unit-by {p} {word} i w q t a =
-      a ∙ ap (λ (x : Step). act x here) (sym t ∙ q ∙ ap (λ (x : ℕ). step (r .blocks) x (r .grey) word) (sym i) ∙ ap (step (r .blocks) (r .phase) (r .grey)) w)
-
-  pub unit-turns : r .phase ≡ marking → r .grey ≡ 1 → finish (turned here) ≡ unit here
-  unfolding unit act
-  unit-turns k o = ap (λ (x : Step). act x here) (turns (r .blocks) (r .phase) (r .grey) (metWord here) k o)
+  unit-by w q t a = a ∙ ap (λ (x : Step). act x here) (sym t ∙ q ∙ ap (step (r .blocks) (r .phase) (r .grey)) w)
 
 -- the blocks that a unit meets, where the registers are legal
 pub marks-block : (h : Heap) → Ready h → h .regs .grey ≢ 1 → Block (h .regs .blocks) (h .regs .grey)

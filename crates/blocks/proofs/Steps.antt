@@ -46,8 +46,8 @@ module _ (m p g word : ℕ) where
   unfolding step
   nowhere i k s = simp (ne-eqb p idle i, ne-eqb p marking k, ne-eqb p sweeping s)
 
-pub high-marks : (m word : ℕ) → m ≤ 16384 → 16386 ≤ word → Damage ≡ markStep (colour m word)
-high-marks m word h l =
+pub high-marks : (m word : ℕ) → m + 2 ≤ word → Damage ≡ markStep (colour m word)
+high-marks m word l =
     by-eq word black (λ e. ap markStep (is-black m word e)) (λ n.
     by-eq word freed (λ e. ap markStep (is-free m word e)) (λ f.
     ap markStep (is-outside m word (omega arith) n f (omega arith))))

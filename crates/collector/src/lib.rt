@@ -1,20 +1,25 @@
 // The collector: n units in a row. Units of one phase are done in a loop of that phase, which keeps what changes in machine
 // registers; `run` goes from loop to loop. Here are the units that begin a cycle and that end marking, which come alone.
-use blocks::Progress;
 use blocks::Ran;
 use blocks::Regs;
 use blocks::Step;
+use stepping::End;
+use stepping::Stretch;
 ghost use mathlib.Core.Path.{_≡_};
 ghost use mathlib.Core.Logic.{_≢_};
 ghost use mathlib.Core.List.{List};
-ghost use Prim.Native.Nat.{ℕ, _≤_, _<_};
+ghost use Prim.Native.Nat.{ℕ, _≤_};
 ghost use lib.ListN.{length};
-ghost use Rattle.blocks.specs.Registers.{idle};
+ghost use Rattle.blocks.specs.Tests.{if_then_else_};
+ghost use Rattle.blocks.specs.Registers.{idle, marking};
+ghost use Rattle.blocks.specs.Block.{isBlock};
+ghost use Rattle.blocks.specs.Colouring.{white, colourWord};
 ghost use Rattle.blocks.specs.WellFormed.{Block};
-ghost use Rattle.blocks.specs.Heap.{Heap, heap};
+ghost use Rattle.blocks.specs.Heap.{heap};
 ghost use Rattle.blocks.specs.Ready.{Ready};
-ghost use Rattle.blocks.specs.OneUnit.{begun, turned, unit, ended};
+ghost use Rattle.blocks.specs.OneUnit.{metBlock, begun, turned};
 ghost use Rattle.blocks.specs.Units.{run, ran};
+ghost use Rattle.stepping.specs.declared.End.the-variants.{Finished};
 ghost use Rattle.stepping.specs.Going.{Went};
 
 // Idle: a cycle begins, and a root that isn't 0 becomes grey.
@@ -33,18 +38,6 @@ pub fn begin(r: Regs, colours: &mut [u32]) -> Regs
     s
 }
 
-// A unit when idle.
-pub fn begin_unit(r: Regs, colours: &mut [u32]) -> Progress
-    requires { ⌜ (r .blocks ≤ 16384) × (length (now colours) ≡ r .blocks) × (r .phase ≡ idle) × (r .root ≢ 0 → Block (r .blocks) (r .root)) ⌝ }
-    ensures { λ p. ⌜ ((ws bs : List ℕ) → ended r p ws (now (colours .exit)) bs ≡ unit (heap r ws (now (colours .entry)) bs)) ⌝ }
-{
-    let word = colours::word_met(r.blocks, &colours[..], r.root);
-    if let Step::Begin = stepping::step(r.blocks, 0, r.grey, word) {
-        return Progress::Done(begin(r, colours));
-    }
-    Progress::Damaged
-}
-
 // Marking, with no grey block left: the sweep begins.
 pub fn turn(r: Regs) -> Regs
     ensures { λ s. ⌜ ((ws cs bs : List ℕ) → heap s ws cs bs ≡ turned (heap r ws cs bs)) ⌝ }
@@ -55,48 +48,48 @@ pub fn turn(r: Regs) -> Regs
     s
 }
 
-// What one unit after i others comes to: it is counted where it was done, and damage ends the run.
-pub fn counted(r: Regs, p: Progress, i: u32, n: u32) -> Ran
-    requires { ⌜ i < n ⌝ }
-    ensures { λ o. ⌜ ((h : Heap) (ws cs bs : List ℕ) → Ready h → ended r p ws cs bs ≡ unit h → Went i n h o ws cs bs) ⌝ }
-{
-    let Progress::Done(s) = p else {
-        return Ran {
-            regs: r,
-            units: i,
-            refusal: 8,
-        };
-    };
-    Ran {
-        regs: s,
-        units: i + 1,
-        refusal: 0,
-    }
-}
-
-// Units of one phase, after i others and up to n: at least one, or damage ended it.
-pub fn stretch(
-    r: Regs,
-    words: &mut [u32],
-    colours: &mut [u32],
-    bytes: &mut [u8],
-    i: u32,
-    n: u32,
-) -> Ran
-    requires { ⌜ Ready (heap r (now words) (now colours) (now bytes)) × (i < n) ⌝ }
-    ensures { λ o. ⌜ Went i n (heap r (now (words .entry)) (now (colours .entry)) (now (bytes .entry))) o (now (words .exit)) (now (colours .exit)) (now (bytes .exit)) ⌝ }
+// The colour word of the block that a unit meets: the root when idle, the first grey block while marking, else the block at the
+// position. It is white where there is none.
+pub fn met_word(r: Regs, colours: &[u32]) -> u32
+    requires { ⌜ (r .blocks ≤ 16384) × (length (now colours) ≡ r .blocks) × (r .phase ≢ idle → r .phase ≢ marking → Block (r .blocks) (r .position)) ⌝ }
+    ensures { λ w. ⌜ w ≡ (if isBlock (r .blocks) (metBlock r) then colourWord (now (colours .entry)) (metBlock r) else white) ⌝ }
 {
     let phase = r.phase;
     match phase {
-        0 => counted(r, begin_unit(r, colours), i, n),
-        1 => {
-            if r.grey == 1 {
-                counted(r, Progress::Done(turn(r)), i, n)
-            } else {
-                marking::marks(r, &words[..], colours, &bytes[..], i, n)
-            }
-        }
-        _ => sweeping::sweeps(r, words, colours, bytes, i, n),
+        0 => colours::word_met(r.blocks, colours, r.root),
+        1 => colours::word_met(r.blocks, colours, r.grey),
+        _ => colours::word_of(colours, r.position),
+    }
+}
+
+// One unit that was done.
+pub fn single(r: Regs) -> Stretch
+    ensures { λ o. ⌜ o ≡ (record { regs = r; units = 1; end = Finished }) ⌝ }
+{
+    Stretch {
+        regs: r,
+        units: 1,
+        end: End::Finished,
+    }
+}
+
+// The next units, at most n: the step that phase, grey head and colour word pick begins a cycle, turns, marks or sweeps, and units
+// that mark or sweep go on as long as their phase does. At least one unit is done, or damage ended it.
+pub fn stretch(r: Regs, words: &mut [u32], colours: &mut [u32], bytes: &mut [u8], n: u32) -> Stretch
+    requires { ⌜ Ready (heap r (now words) (now colours) (now bytes)) × (1 ≤ n) ⌝ }
+    ensures { λ o. ⌜ Went n (heap r (now (words .entry)) (now (colours .entry)) (now (bytes .entry))) o (now (words .exit)) (now (colours .exit)) (now (bytes .exit)) ⌝ }
+{
+    let word = met_word(r, &colours[..]);
+    match stepping::step(r.blocks, r.phase, r.grey, word) {
+        Step::Begin => single(begin(r, colours)),
+        Step::Turn => single(turn(r)),
+        Step::Mark => marking::marks(r, &words[..], colours, &bytes[..], n),
+        Step::Damage => Stretch {
+            regs: r,
+            units: 0,
+            end: End::Damaged,
+        },
+        _ => sweeping::sweeps(r, words, colours, bytes, n),
     }
 }
 
@@ -105,14 +98,25 @@ pub fn run(r: Regs, words: &mut [u32], colours: &mut [u32], bytes: &mut [u8], n:
     requires { ⌜ Ready (heap r (now words) (now colours) (now bytes)) ⌝ }
     ensures { λ o. ⌜ ran o (now (words .exit)) (now (colours .exit)) (now (bytes .exit)) ≡ run n 0 (heap r (now (words .entry)) (now (colours .entry)) (now (bytes .entry))) ⌝ }
 {
-    let mut o = Ran {
-        regs: r,
-        units: 0,
-        refusal: 0,
-    };
-    while o.units < n && o.refusal == 0 {
-        let s = o.regs;
-        o = stretch(s, words, colours, bytes, o.units, n);
+    let mut s = r;
+    let mut left = n;
+    while left != 0 {
+        let o = stretch(s, words, colours, bytes, left);
+        let t = o.regs;
+        let end = o.end;
+        let End::Finished = end else {
+            return Ran {
+                regs: t,
+                units: n - left + o.units,
+                refusal: 8,
+            };
+        };
+        s = t;
+        left -= o.units;
     }
-    o
+    Ran {
+        regs: s,
+        units: n,
+        refusal: 0,
+    }
 }

@@ -1,9 +1,10 @@
 // A unit that marks a block: what the block names is looked over first, then it is made black and what is white is greyed.
 use blocks::Progress;
-use blocks::Ran;
 use blocks::Regs;
 use blocks::Seen;
 use blocks::Step;
+use stepping::End;
+use stepping::Stretch;
 ghost use mathlib.Core.Path.{_≡_};
 ghost use mathlib.Core.Logic.{_≢_};
 ghost use mathlib.Core.Bool.{false};
@@ -116,33 +117,33 @@ pub fn mark_unit(r: Regs, words: &[u32], colours: &mut [u32], bytes: &[u8]) -> P
     ensures { λ p. ⌜ ended r p (now (words .entry)) (now (colours .exit)) (now (bytes .entry)) ≡ unit (heap r (now (words .entry)) (now (colours .entry)) (now (bytes .entry))) ⌝ }
 {
     let word = colours::word_of(&colours[..], r.grey);
-    if let Step::Mark = stepping::step(r.blocks, 1, r.grey, word) {
+    if let Step::Mark = stepping::step(r.blocks, r.phase, r.grey, word) {
         return mark(r, words, colours, bytes);
     }
     Progress::Damaged
 }
 
-// Units after i others and up to n, as long as there is a grey block.
-pub fn marks(r: Regs, words: &[u32], colours: &mut [u32], bytes: &[u8], i: u32, n: u32) -> Ran
-    requires { ⌜ Ready (heap r (now words) (now colours) (now bytes)) × (r .phase ≡ marking) × (r .grey ≢ 1) × (i < n) ⌝ }
-    ensures { λ o. ⌜ Went i n (heap r (now (words .entry)) (now (colours .entry)) (now (bytes .entry))) o (now (words .entry)) (now (colours .exit)) (now (bytes .entry)) ⌝ }
+// At most n units, as long as there is a grey block.
+pub fn marks(r: Regs, words: &[u32], colours: &mut [u32], bytes: &[u8], n: u32) -> Stretch
+    requires { ⌜ Ready (heap r (now words) (now colours) (now bytes)) × (r .phase ≡ marking) × (r .grey ≢ 1) × (1 ≤ n) ⌝ }
+    ensures { λ o. ⌜ Went n (heap r (now (words .entry)) (now (colours .entry)) (now (bytes .entry))) o (now (words .entry)) (now (colours .exit)) (now (bytes .entry)) ⌝ }
 {
     let mut s = r;
-    let mut j = i;
-    while j < n && s.grey != 1 {
+    let mut left = n;
+    while left != 0 && s.grey != 1 {
         let Progress::Done(next) = mark_unit(s, words, colours, bytes) else {
-            return Ran {
+            return Stretch {
                 regs: s,
-                units: j,
-                refusal: 8,
+                units: n - left,
+                end: End::Damaged,
             };
         };
         s = next;
-        j += 1;
+        left -= 1;
     }
-    Ran {
+    Stretch {
         regs: s,
-        units: j,
-        refusal: 0,
+        units: n - left,
+        end: End::Finished,
     }
 }

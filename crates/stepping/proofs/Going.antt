@@ -1,76 +1,86 @@
 -- Laws of units in a row, cut into stretches.
---     counted-on, counted-off      one unit that was done, one that met damage
---     went-on, went-off            a loop that ended with no damage, and one that met some
+--     went-on, went-off            a stretch that ended with no damage, and one that met some
+--     single-on, single-off        a stretch of one unit, done or damaged
 --     loop-on, loop-off            a unit more of a loop, done or damaged
 --     done-marking                 a unit that marks leaves the phase
---     left-first, left-on, left-out, left-off     what is left at first, over a stretch, and at the end
---     due, due-less                a stretch leaves less to do
+--     left-on, left-off            what is left after a stretch, and where damage ended it
+--     run-first, run-at, run-out   a run before its first unit, with j units left, and with none
 -- Assumes nothing.
-use Prim.Native.Nat.{ℕ, suc, _+_, _-_, _≤_, _<_}
+use Prim.Native.Nat.{ℕ, suc, _+_, _-_, _≤_}
 use mathlib.Core.Path.{_≡_, refl, sym, _∙_, ap}
 use mathlib.Core.Logic.{_≢_}
 use mathlib.Core.List.{List}
 use native.Mathlib.Omega.{arith}
-use lib.Dec.{eqb}
-use borrow.Author.Tests.{eq-eqb, ne-eqb}
 use Rattle.blocks.specs.declared.Regs.{Regs}
-use Rattle.blocks.specs.declared.Ran.{Ran}
 use Rattle.blocks.specs.declared.Progress.{Progress}
-use Rattle.blocks.specs.declared.Progress.the-variants.{Done, Damaged}
-use Rattle.blocks.specs.Tests.{if_then_else_}
+use Rattle.blocks.specs.declared.Progress.the-variants.{Done}
+use Rattle.blocks.specs.declared.Progress.the-variants as progress
 use Rattle.blocks.specs.Registers.{marking}
 use Rattle.blocks.specs.Heap.{Heap, heap}
 use Rattle.blocks.specs.Ready.{Ready}
-use Rattle.blocks.specs.OneUnit.{UnitEnd, unit, ended}
-use Rattle.blocks.specs.Units.{run, ran, stopped}
-use Rattle.blocks.proofs.Tests.{by-eq}
+use Rattle.blocks.specs.OneUnit.{UnitEnd, unit, finish, damage, ended}
+use Rattle.blocks.specs.Units.{run, stopped}
+use Rattle.blocks.proofs.Steps.{never}
 use Rattle.blocks.proofs.Running.{marking-stays}
 use Rattle.blocks.proofs.Kept.{done-kept}
-use Rattle.stepping.specs.Going.{left, Went}
+use Rattle.stepping.specs.declared.End.{End}
+use Rattle.stepping.specs.declared.End.the-variants.{Finished, Damaged}
+use Rattle.stepping.specs.declared.Stretch.{Stretch}
+use Rattle.stepping.specs.Going.{leftBy, Went}
 
-abbrev pub went : Regs → ℕ → ℕ → Ran
-went s i n = record { regs = s; units = i; refusal = n }
+abbrev pub went : Regs → ℕ → End → Stretch
+went s i e = record { regs = s; units = i; end = e }
 
 -- a unit done, of a run with units left
-unit-on : (h : Heap) (r s : Regs) (ws cs bs : List ℕ) (i n : ℕ) → i < n → {p : Progress} → ended r p ws cs bs ≡ unit h → p ≡ Done s
-    → run (n - i) i h ≡ run (n - (i + 1)) (i + 1) (heap s ws cs bs)
+unit-on : (h : Heap) (r s : Regs) (ws cs bs : List ℕ) (k i : ℕ) {p : Progress} → ended r p ws cs bs ≡ unit h → p ≡ Done s
+    → run (suc k) i h ≡ run k (i + 1) (heap s ws cs bs)
 unfolding run ended
-unit-on h r s ws cs bs i n l e d =
-    let k : n - i ≡ suc (n - (i + 1)) = omega arith in
-    rw (k, ← e, d) refl
+unit-on h r s ws cs bs k i e d = rw (← e, d) refl
 
-unit-off : (h : Heap) (r : Regs) (ws cs bs : List ℕ) (i n : ℕ) → i < n → {p : Progress} → ended r p ws cs bs ≡ unit h → p ≡ Damaged
-    → run (n - i) i h ≡ stopped 8 i (heap r ws cs bs)
+unit-off : (h : Heap) (r : Regs) (ws cs bs : List ℕ) (k i : ℕ) {p : Progress} → ended r p ws cs bs ≡ unit h → p ≡ progress.Damaged
+    → run (suc k) i h ≡ stopped 8 i (heap r ws cs bs)
 unfolding run ended
-unit-off h r ws cs bs i n l e d =
-    let k : n - i ≡ suc (n - (i + 1)) = omega arith in
-    rw (k, ← e, d) refl
+unit-off h r ws cs bs k i e d = rw (← e, d) refl
 
-module _ (h : Heap) (i n : ℕ) (ws cs bs : List ℕ) where
-  -- a stretch that ended with units j done and no damage
-  pub went-on : (s : Regs) (j : ℕ) → i < j → j ≤ n → Ready (heap s ws cs bs) → run (n - i) i h ≡ run (n - j) j (heap s ws cs bs) → Went i n h (went s j 0) ws cs bs
-  unfolding left
-  went-on s j l b d e = record { within = b; onward = λ z. l; ready = λ z. d; whole = e }
+module _ (h : Heap) (n : ℕ) (ws cs bs : List ℕ) where
+  -- a stretch that ended with j units done, k to do, and no damage
+  pub went-on : (s : Regs) (k j : ℕ) → 1 ≤ j → j ≤ n → k ≡ n - j → Ready (heap s ws cs bs) → ((i : ℕ) → run n i h ≡ run k (i + j) (heap s ws cs bs))
+      → Went n h (went s j Finished) ws cs bs
+  unfolding leftBy
+  went-on s k j l b q d e =
+      record { within = b; onward = λ z. l; ready = λ z. d; whole = λ i. e i ∙ ap (λ (x : ℕ). run x (i + j) (heap s ws cs bs)) q }
 
   -- a stretch that met damage after j units
-  pub went-off : (s : Regs) (j : ℕ) → j ≤ n → run (n - i) i h ≡ stopped 8 j (heap s ws cs bs) → Went i n h (went s j 8) ws cs bs
-  unfolding left
-  went-off s j b e = record { within = b; onward = λ z. absurd (omega arith); ready = λ z. absurd (omega arith); whole = e }
+  pub went-off : (s : Regs) (j : ℕ) → j ≤ n → ((i : ℕ) → run n i h ≡ stopped 8 (i + j) (heap s ws cs bs)) → Went n h (went s j Damaged) ws cs bs
+  unfolding leftBy
+  went-off s j b e = record { within = b; onward = λ z. never (cc); ready = λ z. never (cc); whole = e }
 
-  module _ (r : Regs) {p : Progress} (l : i < n) (e : ended r p ws cs bs ≡ unit h) where
-    pub counted-on : (s : Regs) → Ready h → p ≡ Done s → Went i n h (went s (i + 1) 0) ws cs bs
-    counted-on s d q = went-on s (i + 1) (omega arith) (omega arith) (done-kept h d r s ws cs bs p e q) (unit-on h r s ws cs bs i n l e q)
+  module _ (l : 1 ≤ n) where
+    less : n ≡ suc (n - 1)
+    less = omega arith
 
-    pub counted-off : p ≡ Damaged → Went i n h (went r i 8) ws cs bs
-    counted-off q = went-off r i (omega arith) (unit-off h r ws cs bs i n l e q)
+    pub single-on : (s : Regs) → Ready h → finish (heap s ws cs bs) ≡ unit h → Went n h (went s 1 Finished) ws cs bs
+    unfolding ended
+    single-on s d e =
+        went-on s (n - 1) 1 (omega arith) l refl (done-kept h d s s ws cs bs (Done s) e refl)
+        (λ i. ap (λ (x : ℕ). run x i h) less ∙ unit-on h s s ws cs bs (n - 1) i {p = Done s} e refl)
 
--- one more unit of a loop that has j of them done: k is the run's heap, h the loop's
-module _ (k : Heap) (i n : ℕ) (s : Regs) (ws cs bs : List ℕ) (j : ℕ) (l : j < n) (whole : run (n - i) i k ≡ run (n - j) j (heap s ws cs bs)) (ws′ cs′ bs′ : List ℕ) {p : Progress} (e : ended s p ws′ cs′ bs′ ≡ unit (heap s ws cs bs)) where
-  pub loop-on : (t : Regs) → p ≡ Done t → run (n - i) i k ≡ run (n - (j + 1)) (j + 1) (heap t ws′ cs′ bs′)
-  loop-on t q = whole ∙ unit-on (heap s ws cs bs) s t ws′ cs′ bs′ j n l e q
+    pub single-off : (r : Regs) → damage (heap r ws cs bs) ≡ unit h → Went n h (went r 0 Damaged) ws cs bs
+    unfolding ended
+    single-off r e =
+        went-off r 0 (omega arith)
+        (λ i. ap (λ (x : ℕ). run x i h) less ∙ unit-off h r ws cs bs (n - 1) i {p = progress.Damaged} e refl ∙ ap (λ (x : ℕ). stopped 8 x (heap r ws cs bs)) (omega arith))
 
-  pub loop-off : p ≡ Damaged → Went i n k (went s j 8) ws′ cs′ bs′
-  loop-off q = went-off k i n ws′ cs′ bs′ s j (omega arith) (whole ∙ unit-off (heap s ws cs bs) s ws′ cs′ bs′ j n l e q)
+-- one more unit of a loop that has j units done and x to do: k is the run's heap
+module _ (k : Heap) (n : ℕ) (s : Regs) (ws cs bs : List ℕ) (x j : ℕ) (whole : (i : ℕ) → run n i k ≡ run x (i + j) (heap s ws cs bs)) (ws′ cs′ bs′ : List ℕ) {p : Progress} (e : ended s p ws′ cs′ bs′ ≡ unit (heap s ws cs bs)) where
+  pub loop-on : (t : Regs) → p ≡ Done t → (y l : ℕ) → x ≡ suc y → l ≡ j + 1 → (i : ℕ) → run n i k ≡ run y (i + l) (heap t ws′ cs′ bs′)
+  loop-on t q y l a b i =
+      whole i ∙ ap (λ (z : ℕ). run z (i + j) (heap s ws cs bs)) a ∙ unit-on (heap s ws cs bs) s t ws′ cs′ bs′ y (i + j) e q ∙ ap (λ (z : ℕ). run y z (heap t ws′ cs′ bs′)) (omega arith)
+
+  pub loop-off : p ≡ progress.Damaged → (y : ℕ) → x ≡ suc y → j ≤ n → Went n k (went s j Damaged) ws′ cs′ bs′
+  loop-off q y a b =
+      went-off k n ws′ cs′ bs′ s j b
+      (λ i. whole i ∙ ap (λ (z : ℕ). run z (i + j) (heap s ws cs bs)) a ∙ unit-off (heap s ws cs bs) s ws′ cs′ bs′ y (i + j) e q)
 
 -- a unit that marks leaves the phase
 pub done-marking : (h : Heap) (s t : Regs) (ws cs bs : List ℕ) {p : Progress} → ended s p ws cs bs ≡ unit h → p ≡ Done t → h .regs .phase ≡ marking → h .regs .grey ≢ 1 → t .phase ≡ marking
@@ -78,31 +88,25 @@ unfolding ended
 done-marking h s t ws cs bs e q k n =
     ap (λ (u : UnitEnd). u .heap .regs .phase) (ap (λ (x : Progress). ended s x ws cs bs) (sym q) ∙ e) ∙ marking-stays h k n
 
-pub left-first : (n : ℕ) (r : Regs) (ws cs bs : List ℕ) → run n 0 (heap r ws cs bs) ≡ left n (went r 0 0) ws cs bs
-unfolding left
-left-first n r ws cs bs = let e : n - 0 ≡ n = omega arith in rw e refl
+-- what is left after a stretch of a run that has k units to do and i done
+module _ (k i : ℕ) (h : Heap) {e : End} where
+  pub left-on : e ≡ Finished → leftBy e k i h ≡ run k i h
+  unfolding leftBy
+  left-on z = rw z refl
 
--- what a run still has to do, as a number: none where damage ended it
-abbrev pub due : ℕ → Ran → ℕ
-due n o = if eqb (o .refusal) 0 then suc (n - o .units) else 0
+  pub left-off : e ≡ Damaged → leftBy e k i h ≡ stopped 8 i h
+  unfolding leftBy
+  left-off z = rw z refl
 
-pub due-less : (n : ℕ) (o : Ran) (h : Heap) (q : Ran) (ws cs bs : List ℕ) → o .refusal ≡ 0 → Went (o .units) n h q ws cs bs → due n q < due n o
-due-less n o h q ws cs bs z w = by-eq (q .refusal) 0
-    (λ e. let l = w .onward e in let b = w .within in simp (eq-eqb (q .refusal) 0 e, eq-eqb (o .refusal) 0 z) (omega arith))
-    (λ e. simp (ne-eqb (q .refusal) 0 e, eq-eqb (o .refusal) 0 z) (omega arith))
+-- a run that has done as many units as are not left
+pub run-at : (n j : ℕ) (h k : Heap) {x y : ℕ} → run n 0 h ≡ run x y k → x ≡ j → y ≡ n - j → run n 0 h ≡ run j (n - j) k
+run-at n j h k {y = y} e a b = e ∙ ap (λ (z : ℕ). run z y k) a ∙ ap (λ (z : ℕ). run j z k) b
 
-module _ (n : ℕ) (o : Ran) (ws cs bs : List ℕ) where
-  pub left-on : o .refusal ≡ 0 → left n o ws cs bs ≡ run (n - o .units) (o .units) (heap (o .regs) ws cs bs)
-  unfolding left
-  left-on z = simp (eq-eqb (o .refusal) 0 z)
+-- a run before its first unit
+pub run-first : (n i : ℕ) (h : Heap) {x : ℕ} → i ≡ x → run n i h ≡ run n x h
+run-first n i h e = ap (λ (x : ℕ). run n x h) e
 
-  left-end : o .refusal ≡ 0 → o .units ≡ n → ran o ws cs bs ≡ left n o ws cs bs
-  unfolding left run
-  left-end z e = let k : n - o .units ≡ 0 = omega arith in simp (eq-eqb (o .refusal) 0 z, k) (rw z refl)
-
-  pub left-off : o .refusal ≢ 0 → ran o ws cs bs ≡ left n o ws cs bs
-  unfolding left
-  left-off z = simp (ne-eqb (o .refusal) 0 z)
-
-  pub left-out : o .units ≤ n → n ≤ o .units → ran o ws cs bs ≡ left n o ws cs bs
-  left-out b l = by-eq (o .refusal) 0 (λ z. left-end z (omega arith)) left-off
+-- a run with no unit left
+pub run-out : (n : ℕ) (h : Heap) {x : ℕ} → x ≡ 0 → run x (n - x) h ≡ stopped 0 n h
+unfolding run
+run-out n h z = rw z (ap (λ (x : ℕ). stopped 0 x h) (omega arith))

@@ -1,23 +1,24 @@
 -- Some of the units of a run: what has been done of it, and that the rest of the run is the run's.
---     left n o ws cs bs        what is left of n units where o was answered: nothing where damage ended them
---     Went i n h o ws cs bs    from i units done to those that o says: at least one more, or damage; and the whole is what is left
+--     leftBy e k i h       what is left of a run with k units to do and i done: nothing where damage ended it
+--     Went n h o ws cs bs  of n units from h those are done that o says: at least one, or damage; and the whole is what is left
 -- Assumes nothing.
-use Prim.Native.Nat.{ℕ, _-_, _≤_, _<_}
+use Prim.Native.Nat.{ℕ, _+_, _-_, _≤_}
 use mathlib.Core.Path.{_≡_}
 use mathlib.Core.List.{List}
-use lib.Dec.{eqb}
-use Rattle.blocks.specs.declared.Ran.{Ran}
-use Rattle.blocks.specs.Tests.{if_then_else_}
 use Rattle.blocks.specs.Heap.{Heap, heap}
 use Rattle.blocks.specs.Ready.{Ready}
-use Rattle.blocks.specs.Units.{RunEnd, run, ran}
+use Rattle.blocks.specs.Units.{RunEnd, run, stopped}
+use Rattle.stepping.specs.declared.End.{End}
+use Rattle.stepping.specs.declared.End.the-variants.{Finished, Damaged}
+use Rattle.stepping.specs.declared.Stretch.{Stretch}
 
-unfoldable pub left : ℕ → Ran → List ℕ → List ℕ → List ℕ → RunEnd
-left n o ws cs bs =
-    if eqb (o .refusal) 0 then run (n - o .units) (o .units) (heap (o .regs) ws cs bs) else ran o ws cs bs
+unfoldable pub leftBy : End → ℕ → ℕ → Heap → RunEnd
+leftBy Finished k i h = run k i h
+leftBy Damaged k i h = stopped 8 i h
 
-pub record Went (i n : ℕ) (h : Heap) (o : Ran) (ws cs bs : List ℕ) : Type 0 where
+pub record Went (n : ℕ) (h : Heap) (o : Stretch) (ws cs bs : List ℕ) : Type 0 where
   pub within : o .units ≤ n
-  pub onward : o .refusal ≡ 0 → i < o .units
-  pub ready : o .refusal ≡ 0 → Ready (heap (o .regs) ws cs bs)
-  pub whole : run (n - i) i h ≡ left n o ws cs bs
+  pub onward : o .end ≡ Finished → 1 ≤ o .units
+  pub ready : o .end ≡ Finished → Ready (heap (o .regs) ws cs bs)
+  -- however many units i were done before
+  pub whole : (i : ℕ) → run n i h ≡ leftBy (o .end) (n - o .units) (i + o .units) (heap (o .regs) ws cs bs)

@@ -1,19 +1,24 @@
-// A unit that sweeps a block: by its colour the block is freed, whitened or passed, and the position goes on.
+// A unit that sweeps a block: by its colour the block is freed, whitened or passed, and the position goes on by one. In a row of such
+// units the sweep's end is met once, behind the last of them.
 use blocks::Progress;
-use blocks::Ran;
 use blocks::Regs;
 use blocks::Step;
+use stepping::End;
+use stepping::Stretch;
 ghost use mathlib.Core.Path.{_≡_};
 ghost use mathlib.Core.List.{List};
-ghost use Prim.Native.Nat.{ℕ, _≤_, _<_};
+ghost use Prim.Native.Nat.{ℕ, _+_, _-_, _≤_, _<_};
+ghost use lib.Dec.{ltb};
 ghost use lib.ListN.{length};
 ghost use Rattle.blocks.specs.declared.Step.the-variants.{Reclaim};
-ghost use Rattle.blocks.specs.Registers.{sweeping, sweepEnd};
+ghost use Rattle.blocks.specs.Tests.{if_then_else_};
+ghost use Rattle.blocks.specs.Registers.{sweeping, withPosition, sweepEnd};
 ghost use Rattle.blocks.specs.WellFormed.{Block};
 ghost use Rattle.blocks.specs.Heap.{heap};
 ghost use Rattle.blocks.specs.Ready.{Ready};
-ghost use Rattle.blocks.specs.OneUnit.{advance, whitened, act, unit, ended};
+ghost use Rattle.blocks.specs.OneUnit.{whitened, act, unit, ended};
 ghost use Rattle.stepping.specs.Going.{Went};
+ghost use Rattle.sweeping.specs.Ending.{settled, settling, Onward};
 
 // The last block that a sweep reaches.
 pub fn sweep_end(r: Regs) -> u32
@@ -23,25 +28,45 @@ pub fn sweep_end(r: Regs) -> u32
     r.blocks + 1
 }
 
-// The sweep goes on to the next block, or ends.
-pub fn advance(r: Regs) -> Regs
+// The position goes on by one, past the sweep's last block too.
+pub fn onward(r: Regs) -> Regs
     requires { ⌜ (r .blocks ≤ 16384) × (r .position ≤ sweepEnd r) ⌝ }
-    ensures { λ s. ⌜ s ≡ advance r ⌝ }
+    ensures { λ s. ⌜ s ≡ withPosition (r .position + 1) r ⌝ }
 {
     let mut s = r;
-    if r.position == sweep_end(r) {
-        s.phase = 0;
-        s.position = 0;
-        return s;
-    }
     s.position = r.position + 1;
     s
+}
+
+// A sweep that has gone past its last block has ended.
+pub fn settled(r: Regs) -> Regs
+    requires { ⌜ r .blocks ≤ 16384 ⌝ }
+    ensures { λ s. ⌜ s ≡ settled r ⌝ }
+{
+    let mut s = r;
+    if r.position == sweep_end(r) + 1 {
+        s.phase = 0;
+        s.position = 0;
+    }
+    s
+}
+
+// Where the position stands once k units are done, or the sweep has gone past its last block.
+pub fn stop(r: Regs, k: u32) -> u32
+    requires { ⌜ (r .blocks ≤ 16384) × (r .position ≤ sweepEnd r) ⌝ }
+    ensures { λ p. ⌜ p ≡ (if ltb k (sweepEnd r + 1 - r .position) then r .position + k else sweepEnd r + 1) ⌝ }
+{
+    let past = sweep_end(r) + 1;
+    if k < past - r.position {
+        return r.position + k;
+    }
+    past
 }
 
 // Sweeping: the white block at the position is freed.
 pub fn reclaim(r: Regs, words: &mut [u32], colours: &mut [u32], bytes: &mut [u8]) -> Progress
     requires { ⌜ Ready (heap r (now words) (now colours) (now bytes)) × Block (r .blocks) (r .position) ⌝ }
-    ensures { λ p. ⌜ ended r p (now (words .exit)) (now (colours .exit)) (now (bytes .exit)) ≡ act Reclaim (heap r (now (words .entry)) (now (colours .entry)) (now (bytes .entry))) ⌝ }
+    ensures { λ p. ⌜ (ended r (settling p) (now (words .exit)) (now (colours .exit)) (now (bytes .exit)) ≡ act Reclaim (heap r (now (words .entry)) (now (colours .entry)) (now (bytes .entry)))) × Onward r p ⌝ }
 {
     if r.count == r.blocks {
         return Progress::Damaged;
@@ -53,60 +78,52 @@ pub fn reclaim(r: Regs, words: &mut [u32], colours: &mut [u32], bytes: &mut [u8]
     let mut s = r;
     s.free = r.position;
     s.count = r.count + 1;
-    Progress::Done(advance(s))
+    Progress::Done(onward(s))
 }
 
 // Sweeping: the black block at the position becomes white.
 pub fn whiten(r: Regs, colours: &mut [u32]) -> Regs
     requires { ⌜ (r .blocks ≤ 16384) × (length (now colours) ≡ r .blocks) × Block (r .blocks) (r .position) ⌝ }
-    ensures { λ s. ⌜ ((ws bs : List ℕ) → heap s ws (now (colours .exit)) bs ≡ whitened (heap r ws (now (colours .entry)) bs)) ⌝ }
+    ensures { λ s. ⌜ ((ws bs : List ℕ) → heap (settled s) ws (now (colours .exit)) bs ≡ whitened (heap r ws (now (colours .entry)) bs)) × (s ≡ withPosition (r .position + 1) r) ⌝ }
 {
     colours::paint(colours, r.position, colours::WHITE);
-    advance(r)
+    onward(r)
 }
 
-// A unit while sweeping.
+// A unit while sweeping, but that the sweep's end is left to the last of them.
 pub fn sweep_unit(r: Regs, words: &mut [u32], colours: &mut [u32], bytes: &mut [u8]) -> Progress
     requires { ⌜ Ready (heap r (now words) (now colours) (now bytes)) × (r .phase ≡ sweeping) ⌝ }
-    ensures { λ p. ⌜ ended r p (now (words .exit)) (now (colours .exit)) (now (bytes .exit)) ≡ unit (heap r (now (words .entry)) (now (colours .entry)) (now (bytes .entry))) ⌝ }
+    ensures { λ p. ⌜ (ended r (settling p) (now (words .exit)) (now (colours .exit)) (now (bytes .exit)) ≡ unit (heap r (now (words .entry)) (now (colours .entry)) (now (bytes .entry)))) × Onward r p ⌝ }
 {
     let word = colours::word_of(&colours[..], r.position);
-    match stepping::step(r.blocks, 2, r.grey, word) {
+    match stepping::step(r.blocks, r.phase, r.grey, word) {
         Step::Reclaim => reclaim(r, words, colours, bytes),
         Step::Whiten => Progress::Done(whiten(r, colours)),
-        Step::Pass => Progress::Done(advance(r)),
+        Step::Pass => Progress::Done(onward(r)),
         _ => Progress::Damaged,
     }
 }
 
-// Units after i others and up to n, as long as the sweep lasts.
-pub fn sweeps(
-    r: Regs,
-    words: &mut [u32],
-    colours: &mut [u32],
-    bytes: &mut [u8],
-    i: u32,
-    n: u32,
-) -> Ran
-    requires { ⌜ Ready (heap r (now words) (now colours) (now bytes)) × (r .phase ≡ sweeping) × (i < n) ⌝ }
-    ensures { λ o. ⌜ Went i n (heap r (now (words .entry)) (now (colours .entry)) (now (bytes .entry))) o (now (words .exit)) (now (colours .exit)) (now (bytes .exit)) ⌝ }
+// At most n units, as long as the sweep lasts.
+pub fn sweeps(r: Regs, words: &mut [u32], colours: &mut [u32], bytes: &mut [u8], n: u32) -> Stretch
+    requires { ⌜ Ready (heap r (now words) (now colours) (now bytes)) × (r .phase ≡ sweeping) × (1 ≤ n) ⌝ }
+    ensures { λ o. ⌜ Went n (heap r (now (words .entry)) (now (colours .entry)) (now (bytes .entry))) o (now (words .exit)) (now (colours .exit)) (now (bytes .exit)) ⌝ }
 {
+    let last = stop(r, n);
     let mut s = r;
-    let mut j = i;
-    while s.phase == 2 && j < n {
+    while s.position != last {
         let Progress::Done(next) = sweep_unit(s, words, colours, bytes) else {
-            return Ran {
+            return Stretch {
                 regs: s,
-                units: j,
-                refusal: 8,
+                units: s.position - r.position,
+                end: End::Damaged,
             };
         };
         s = next;
-        j += 1;
     }
-    Ran {
-        regs: s,
-        units: j,
-        refusal: 0,
+    Stretch {
+        regs: settled(s),
+        units: s.position - r.position,
+        end: End::Finished,
     }
 }

@@ -1,80 +1,89 @@
 -- `collector::run` meets its contract: the whole run is what is left of it, stretch by stretch. Assumes nothing.
-use Prim.Native.Nat.{_≤_}
+use Prim.Native.Nat.{_-_, _≤_}
 use mathlib.Core.Path.{_≡_, refl, sym, _∙_}
 use native.Mathlib.Omega.{arith}
 use lib.ListN.{length}
-use borrow.Author.Tests.{eqb-true, eqb-false}
 use Rattle.blocks.specs.Heap.{heap}
 use Rattle.blocks.specs.Ready.{Ready}
 use Rattle.blocks.specs.Units.{run}
-use Rattle.stepping.specs.Going.{left}
-use Rattle.stepping.proofs.Going.{left-first, left-on, left-out, left-off, due, due-less}
+use Rattle.stepping.proofs.Going.{run-first, run-at, left-on, left-off, run-out}
 use borrow.Author.Needs.{needs}
 use Rattle.collector.proofs.run.Statement.{statement}
 use Rattle.collector.proofs.run.Tie as tie
 
 abbrev Inv-loop : tie.InvT-loop
-Inv-loop words₀ colours₀ bytes₀ n o₀ words colours bytes o =
-    (length words ≡ length words₀) × (length colours ≡ length colours₀) × (length bytes ≡ length bytes₀) × (o .units ≤ n) × (o .refusal ≡ 0 → Ready (heap (o .regs) words colours bytes)) × (run n 0 (heap (o₀ .regs) words₀ colours₀ bytes₀) ≡ left n o words colours bytes)
+Inv-loop words₀ colours₀ bytes₀ n s₀ left₀ words colours bytes s left =
+    (length words ≡ length words₀) × (length colours ≡ length colours₀) × (length bytes ≡ length bytes₀) × (left ≤ n) × Ready (heap s words colours bytes) × (run n 0 (heap s₀ words₀ colours₀ bytes₀) ≡ run left (n - left) (heap s words colours bytes))
 
 abbrev μ-loop : tie.MeasureT-loop
-μ-loop words₀ colours₀ bytes₀ n o₀ words colours bytes o = due n o
+μ-loop words₀ colours₀ bytes₀ n s₀ left₀ words colours bytes s left = left
 
 loop-holds : tie.Need-loop-holds Inv-loop μ-loop
-loop-holds c = (refl, refl, refl, omega arith, λ z. c .before .before .before .pre, left-first _ _ _ _ _)
+loop-holds c = (refl, refl, refl, omega arith, c .before .before .before .pre, run-first _ 0 _ (omega arith))
 
 stretch-requires : tie.Need-stretch-requires Inv-loop μ-loop
-stretch-requires c κs =
-    let c-loop = c .before .before .before .before .before .before .before .before .loop in
-    let c-if2 = c .before .before .before .before .if2 in
-    let c-if1 = c .before .before .before .before .before .before .if1 in
-    (c-loop .inv .4 (eqb-true _ _ (c-if2 .taken)), c-if1 .taken)
+stretch-requires c κs = (c .before .before .before .before .loop .inv .4, omega arith)
 
-loop-less : tie.Need-loop-less Inv-loop μ-loop
-loop-less c =
-    let c-loop = c .before .before .before .before .before .before .before .before .before .before .before .before .before .before .before .loop in
-    let c-if2 = c .before .before .before .before .before .before .before .before .before .before .before .if2 in
-    let c-stretch = c .before .before .before .before .before .before .stretch in
-    due-less _ (c-loop .o) _ _ _ _ _ (eqb-true (c-loop .o .refusal) 0 (c-if2 .taken)) (c-stretch .ensures)
+enum-told : tie.Need-enum-told Inv-loop μ-loop
+enum-told c = search needs
 
-loop-again : tie.Need-loop-again Inv-loop μ-loop
-loop-again c =
-    let c-stretch = c .before .before .before .before .before .before .stretch in
-    let c-loop = c .before .before .before .before .before .before .before .before .before .before .before .before .before .before .before .loop in
-    let c-if2 = c .before .before .before .before .before .before .before .before .before .before .before .if2 in
-    (c-stretch .kept .1 .0 ∙ c-loop .inv .0, c-stretch .kept .1 .1 .0 ∙ c-loop .inv .1, c-stretch .kept .1 .1 .1 .0 ∙ c-loop .inv .2, c-stretch .ensures .within, c-stretch .ensures .ready, c-loop .inv .5 ∙ left-on _ _ _ _ _ (eqb-true _ _ (c-if2 .taken)) ∙ c-stretch .ensures .whole)
+enum-told-2 : tie.Need-enum-told-2 Inv-loop μ-loop
+enum-told-2 c = search needs
+
+sub-t18 : tie.Need-sub-t18 Inv-loop μ-loop
+sub-t18 c = c .before .before .before .before .before .before .before .before .before .before .before .before .before .before .loop .inv .3
+
+add-t19 : tie.Need-add-t19 Inv-loop μ-loop
+add-t19 c =
+    let b = c .before .before .before .before .before .before .before .before .before .before .stretch .ensures .within in
+    let l = c .before .before .before .before .before .before .before .before .before .before .before .before .before .before .before .loop .inv .3 in
+    omega (arith, c .before .before .before .before .before .before .before .before .before .before .before .before .before .before .before .before .before .before .before .fits .n)
 
 same-length : tie.Need-same-length Inv-loop μ-loop
-same-length c =
-    let c-loop = c .before .before .before .before .loop in
-    c-loop .inv .0
+same-length c = c .before .before .before .before .before .before .before .before .before .before .stretch .kept .1 .0 ∙ c .before .before .before .before .before .before .before .before .before .before .before .before .before .before .before .loop .inv .0
 
 same-length-2 : tie.Need-same-length-2 Inv-loop μ-loop
-same-length-2 c =
-    let c-loop = c .before .before .before .before .loop in
-    c-loop .inv .1
+same-length-2 c = c .before .before .before .before .before .before .before .before .before .before .stretch .kept .1 .1 .0 ∙ c .before .before .before .before .before .before .before .before .before .before .before .before .before .before .before .loop .inv .1
 
 same-length-3 : tie.Need-same-length-3 Inv-loop μ-loop
-same-length-3 c =
-    let c-loop = c .before .before .before .before .loop in
-    c-loop .inv .2
+same-length-3 c = c .before .before .before .before .before .before .before .before .before .before .stretch .kept .1 .1 .1 .0 ∙ c .before .before .before .before .before .before .before .before .before .before .before .before .before .before .before .loop .inv .2
 
 returns : tie.Need-returns Inv-loop μ-loop
 returns c =
-    let c-loop = c .before .before .before .before .loop in
-    left-off _ _ _ _ _ (eqb-false _ _ (c .if2 .left)) ∙ sym (c-loop .inv .5)
+    let c-stretch = c .before .before .before .before .before .before .before .before .before .before .stretch in
+    let c-loop = c .before .before .before .before .before .before .before .before .before .before .before .before .before .before .before .loop in
+    sym (c-loop .inv .5 ∙ c-stretch .ensures .whole _ ∙ left-off _ _ _ (c .before .enum-told2 .given .1))
+
+sub-left : tie.Need-sub-left Inv-loop μ-loop
+sub-left c = c .before .before .before .before .before .before .before .before .before .before .stretch .ensures .within
+
+loop-less : tie.Need-loop-less Inv-loop μ-loop
+loop-less c =
+    let c-stretch = c .before .before .before .before .before .before .before .before .before .before .stretch in
+    let l = c-stretch .ensures .onward (c .before .enum-told .given .1) in
+    let b = c-stretch .ensures .within in
+    omega arith
+
+loop-again : tie.Need-loop-again Inv-loop μ-loop
+loop-again c =
+    let c-stretch = c .before .before .before .before .before .before .before .before .before .before .stretch in
+    let c-loop = c .before .before .before .before .before .before .before .before .before .before .before .before .before .before .before .loop in
+    let e = c .before .enum-told .given .1 in
+    let b = c-stretch .ensures .within in
+    let l = c-loop .inv .3 in
+    (c-stretch .kept .1 .0 ∙ c-loop .inv .0, c-stretch .kept .1 .1 .0 ∙ c-loop .inv .1, c-stretch .kept .1 .1 .1 .0 ∙ c-loop .inv .2, omega arith, c-stretch .ensures .ready e, run-at _ _ _ _ (c-loop .inv .5 ∙ c-stretch .ensures .whole _ ∙ left-on _ _ _ e) refl (omega arith))
 
 same-length-4 : tie.Need-same-length-4 Inv-loop μ-loop
-same-length-4 c = c .before .before .loop .inv .0
+same-length-4 c = c .before .loop .inv .0
 
 same-length-5 : tie.Need-same-length-5 Inv-loop μ-loop
-same-length-5 c = c .before .before .loop .inv .1
+same-length-5 c = c .before .loop .inv .1
 
 same-length-6 : tie.Need-same-length-6 Inv-loop μ-loop
-same-length-6 c = c .before .before .loop .inv .2
+same-length-6 c = c .before .loop .inv .2
 
 returns-2 : tie.Need-returns-2 Inv-loop μ-loop
-returns-2 c = left-out _ _ _ _ _ (c .before .before .loop .inv .3) (c .if1 .left) ∙ sym (c .before .before .loop .inv .5)
+returns-2 c = sym (c .before .loop .inv .5 ∙ run-out _ _ (c .loop-test .left))
 
 pub run-spec : {M : Type 1} → statement M
 run-spec =
@@ -84,12 +93,17 @@ run-spec =
     μ-loop
     loop-holds
     stretch-requires
-    loop-less
-    loop-again
+    enum-told
+    enum-told-2
+    sub-t18
+    add-t19
     same-length
     same-length-2
     same-length-3
     returns
+    sub-left
+    loop-less
+    loop-again
     same-length-4
     same-length-5
     same-length-6

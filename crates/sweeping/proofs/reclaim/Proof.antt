@@ -1,13 +1,15 @@
 -- `sweeping::reclaim` meets its contract. Assumes nothing.
-use mathlib.Core.Path.{refl}
+use mathlib.Core.Path.{refl, _∙_, ap}
 use Rattle.blocks.proofs.Sweeping.{reclaim-full, reclaim-done}
 use Rattle.blocks.proofs.Parts.{back-is}
+use Rattle.sweeping.specs.Ending.{settled}
+use Rattle.sweeping.proofs.Ending.{advance-settles, stepped}
 use borrow.Author.Needs.{needs}
 use Rattle.sweeping.proofs.reclaim.Statement.{statement}
 use Rattle.sweeping.proofs.reclaim.Tie as tie
 
 returns : tie.Need-returns
-returns c = reclaim-full _ _ _ _ (c .if1 .taken)
+returns c = (reclaim-full _ _ _ _ (c .if1 .taken), tt)
 
 cast-at : tie.Need-cast-at
 cast-at c = search needs
@@ -45,8 +47,8 @@ clear-byte-requires c κs = search needs
 add-s : tie.Need-add-s
 add-s c = search needs
 
-advance-requires : tie.Need-advance-requires
-advance-requires c κs = search needs
+onward-requires : tie.Need-onward-requires
+onward-requires c κs = search needs
 
 same-length : tie.Need-same-length
 same-length c = search needs
@@ -64,7 +66,7 @@ returns-2 c =
     let c-clear = c .before .before .before .before .before .before .before .before .before .before .before .before .clear in
     let c-paint = c .before .before .before .before .before .before .before .before .paint in
     let c-clear-byte = c .before .before .before .before .clear-byte in
-    reclaim-done _ (c-args .words .now) (c-args .colours .now) (c-args .bytes .now) (c-if1 .left) (back-is _ _ (c-clear .ensures)) (c-paint .ensures) (c-clear-byte .ensures) (c .advance .ensures)
+    (reclaim-done _ (c-args .words .now) (c-args .colours .now) (c-args .bytes .now) (c-if1 .left) (back-is _ _ (c-clear .ensures)) (c-paint .ensures) (c-clear-byte .ensures) (ap settled (c .onward .ensures) ∙ advance-settles _), stepped (c-args .r) _ (c .onward .ensures) refl refl refl)
 
 pub reclaim-spec : {M : Type 1} → statement M
 reclaim-spec =
@@ -83,7 +85,7 @@ reclaim-spec =
     paint-requires
     clear-byte-requires
     add-s
-    advance-requires
+    onward-requires
     same-length
     same-length-2
     same-length-3

@@ -4,6 +4,7 @@ use Rattle.blocks.specs.OneUnit.{finish, act, ended, passed}
 use Rattle.blocks.proofs.Blocks.{block-as}
 use Rattle.blocks.proofs.Running.{met-sweeping, unit-by, sweeps-block}
 use Rattle.stepping.proofs.Picking.{sweeps-or}
+use Rattle.sweeping.proofs.Ending.{advance-settles, stepped}
 use borrow.Author.Needs.{needs}
 use Rattle.sweeping.proofs.sweep_unit.Statement.{statement}
 use Rattle.sweeping.proofs.sweep_unit.Tie as tie
@@ -35,8 +36,8 @@ whiten-requires c κs =
 enum-told-3 : tie.Need-enum-told-3
 enum-told-3 c = search needs
 
-advance-requires : tie.Need-advance-requires
-advance-requires c κs =
+onward-requires : tie.Need-onward-requires
+onward-requires c κs =
     let c-pre = c .before .before .before .before .before .before .before .before .pre in
     (c-pre .0 .most, (sweeps-block _ (c-pre .0) (c-pre .1)) .high)
 
@@ -58,7 +59,7 @@ returns c =
     let c-step = c .before .before .before .before .before .before .before .before .before .before .before .before .step in
     let c-enum-told = c .before .before .before .before .before .before .before .before .before .before .enum-told in
     let c-reclaim = c .before .before .before .before .before .before .reclaim in
-    unit-by (c-args .r) (c-args .words .now) (c-args .colours .now) (c-args .bytes .now) (c-pre .1) (met-sweeping (c-args .r) (c-args .words .now) (c-args .colours .now) (c-args .bytes .now) (c-pre .1) (sweeps-block _ (c-pre .0) (c-pre .1)) (c-word-of .ensures)) (c-step .ensures) (c-enum-told .given .1) (c-reclaim .ensures)
+    (unit-by (c-args .r) (c-args .words .now) (c-args .colours .now) (c-args .bytes .now) (met-sweeping (c-args .r) (c-args .words .now) (c-args .colours .now) (c-args .bytes .now) (c-pre .1) (sweeps-block _ (c-pre .0) (c-pre .1)) (c-word-of .ensures)) (c-step .ensures) (c-enum-told .given .1) (c-reclaim .ensures .0), c-reclaim .ensures .1)
 
 same-length-4 : tie.Need-same-length-4
 same-length-4 c = search needs
@@ -71,7 +72,7 @@ returns-2 c =
     let c-word-of = c .before .before .before .before .before .before .before .word-of in
     let c-step = c .before .before .before .before .before .before .step in
     let c-enum-told2 = c .before .before .before .before .enum-told2 in
-    unit-by (c-args .r) (c-args .words .now) (c-args .colours .now) (c-args .bytes .now) (c-pre .1) (met-sweeping (c-args .r) (c-args .words .now) (c-args .colours .now) (c-args .bytes .now) (c-pre .1) (sweeps-block _ (c-pre .0) (c-pre .1)) (c-word-of .ensures)) (c-step .ensures) (c-enum-told2 .given .1) (ap finish (c .before .before .whiten .ensures _ _))
+    (unit-by (c-args .r) (c-args .words .now) (c-args .colours .now) (c-args .bytes .now) (met-sweeping (c-args .r) (c-args .words .now) (c-args .colours .now) (c-args .bytes .now) (c-pre .1) (sweeps-block _ (c-pre .0) (c-pre .1)) (c-word-of .ensures)) (c-step .ensures) (c-enum-told2 .given .1) (ap finish (c .before .before .whiten .ensures .0 _ _)), stepped (c-args .r) _ (c .before .before .whiten .ensures .1) refl refl refl)
 
 same-length-5 : tie.Need-same-length-5
 same-length-5 c = refl
@@ -82,7 +83,7 @@ returns-3 c =
     let c-args = c .before .before .before .before .before .before .before .before .before .args in
     let c-pre = c .before .before .before .before .before .before .before .before .before .pre in
     let c-word-of = c .before .before .before .before .word-of in
-    unit-by (c-args .r) (c-args .words .now) (c-args .colours .now) (c-args .bytes .now) (c-pre .1) (met-sweeping (c-args .r) (c-args .words .now) (c-args .colours .now) (c-args .bytes .now) (c-pre .1) (sweeps-block _ (c-pre .0) (c-pre .1)) (c-word-of .ensures)) (c .before .before .before .step .ensures) (c .before .enum-told3 .given .1) (rw (c .advance .ensures) refl)
+    (unit-by (c-args .r) (c-args .words .now) (c-args .colours .now) (c-args .bytes .now) (met-sweeping (c-args .r) (c-args .words .now) (c-args .colours .now) (c-args .bytes .now) (c-pre .1) (sweeps-block _ (c-pre .0) (c-pre .1)) (c-word-of .ensures)) (c .before .before .before .step .ensures) (c .before .enum-told3 .given .1) (rw (c .onward .ensures, advance-settles (c-args .r)) refl), stepped (c-args .r) _ (c .onward .ensures) refl refl refl)
 
 same-length-6 : tie.Need-same-length-6
 same-length-6 c = refl
@@ -92,7 +93,7 @@ unfolding act ended
 returns-4 c =
     let c-args = c .before .before .before .before .before .before .before .args in
     let c-pre = c .before .before .before .before .before .before .before .pre in
-    unit-by (c-args .r) (c-args .words .now) (c-args .colours .now) (c-args .bytes .now) (c-pre .1) (met-sweeping (c-args .r) (c-args .words .now) (c-args .colours .now) (c-args .bytes .now) (c-pre .1) (sweeps-block _ (c-pre .0) (c-pre .1)) (c .before .before .word-of .ensures)) (c .before .step .ensures) (sweeps-or _ _ _ (c .before .step .ensures) (c .match .keys4)) refl
+    (unit-by (c-args .r) (c-args .words .now) (c-args .colours .now) (c-args .bytes .now) (met-sweeping (c-args .r) (c-args .words .now) (c-args .colours .now) (c-args .bytes .now) (c-pre .1) (sweeps-block _ (c-pre .0) (c-pre .1)) (c .before .before .word-of .ensures)) (c .before .step .ensures) (sweeps-or _ _ _ _ (c .before .step .ensures) (c-pre .1) (c .match .keys4)) refl, tt)
 
 pub sweep-unit-spec : {M : Type 1} → statement M
 sweep-unit-spec =
@@ -105,7 +106,7 @@ sweep-unit-spec =
     enum-told-2
     whiten-requires
     enum-told-3
-    advance-requires
+    onward-requires
     same-length
     same-length-2
     same-length-3
