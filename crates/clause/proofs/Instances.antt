@@ -41,6 +41,11 @@ use Rattle.clause.specs.Lasting.{SameList, Leaves}
 use Rattle.clause.specs.Instances.{night, buffer, rows, busy, Lasts, refused, refusals, Unmoved, Touched, Dropped}
 use Rattle.clause.proofs.Lasting.{export-lasts}
 
+-- a pair, to be written in a row
+infixr 4 _also_
+_also_ : {A B : Type 0} → A → B → A × B
+a also b = (a, b)
+
 formed : WellFormed night
 formed = session-formed _ (formatted 6 1) (fresh-formed 6 1 (omega arith) (omega arith) (omega arith))
 
@@ -108,10 +113,10 @@ module _ (h : Heap) where
   work-word = spares-word (Work 30) h refl work-acts
 
 untouched : Untouched busy night (3 ∷ 4 ∷ [])
-untouched = (take-rows _, (take-rows _, (work-rows _, (take-rows _, (take-rows _, (work-rows _, (take-rows _, tt)))))))
+untouched = take-rows _ also take-rows _ also work-rows _ also take-rows _ also take-rows _ also work-rows _ also take-rows _ also tt
 
 left : Leaves busy night 2 1
-left = (take-word _, (take-word _, (work-word _, (take-word _, (take-word _, (work-word _, (take-word _, tt)))))))
+left = take-word _ also take-word _ also work-word _ also take-word _ also take-word _ also work-word _ also take-word _ also tt
 
 -- what the machine computes, once
 record Computed : Type 0 where
@@ -193,13 +198,13 @@ spared =
     record {
       answers = refl;
       untouched =
-          (spares-rows (Allocate 2 4) _ refl four, (spares-rows (Allocate 2 5) _ refl five, (spares-rows (Allocate 2 6) _ refl six,
-          (spares-rows (Allocate 3 0) _ refl none, (spares-rows (StoreReference 3 0 9) _ refl none, (spares-rows (SetRoot 9) _ refl none,
-          (spares-rows (Format 0 1) _ refl none, (spares-rows (Work 30) _ refl none, tt))))))));
+          spares-rows (Allocate 2 4) _ refl four also spares-rows (Allocate 2 5) _ refl five also spares-rows (Allocate 2 6) _ refl six
+          also spares-rows (Allocate 3 0) _ refl none also spares-rows (StoreReference 3 0 9) _ refl none also spares-rows (SetRoot 9) _ refl none
+          also spares-rows (Format 0 1) _ refl none also spares-rows (Work 30) _ refl none also tt;
       left =
-          (spares-word (Allocate 2 4) _ refl four, (spares-word (Allocate 2 5) _ refl five, (spares-word (Allocate 2 6) _ refl six,
-          (spares-word (Allocate 3 0) _ refl none, (spares-word (StoreReference 3 0 9) _ refl none, (spares-word (SetRoot 9) _ refl none,
-          (spares-word (Format 0 1) _ refl none, (spares-word (Work 30) _ refl none, tt))))))));
+          spares-word (Allocate 2 4) _ refl four also spares-word (Allocate 2 5) _ refl five also spares-word (Allocate 2 6) _ refl six
+          also spares-word (Allocate 3 0) _ refl none also spares-word (StoreReference 3 0 9) _ refl none also spares-word (SetRoot 9) _ refl none
+          also spares-word (Format 0 1) _ refl none also spares-word (Work 30) _ refl none also tt;
     }
 
 pub unmoved : Unmoved
