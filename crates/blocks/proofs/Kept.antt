@@ -19,10 +19,10 @@ use Rattle.blocks.specs.declared.Regs.{Regs}
 use Rattle.blocks.specs.declared.Colour.the-variants.{Grey}
 use Rattle.blocks.specs.declared.Progress.{Progress}
 use Rattle.blocks.specs.declared.Progress.the-variants.{Done}
-use Rattle.blocks.specs.Registers.{idle, marking, sweeping, withPhase, withFree, withCount, withCycle, nextCycle, sweepEnd}
+use Rattle.blocks.specs.Registers.{idle, marking, sweeping, withPhase, withCycle, nextCycle, sweepEnd}
 use Rattle.blocks.specs.Block.{isBlock, withEight, freeWords, clearByte}
 use Rattle.blocks.specs.Colouring.{Colouring, white, black, freed, colour, colourWord, paint, toBlack, greyWhite, greyAll, headLegal}
-use Rattle.blocks.specs.Heap.{Heap, heap, colouring, withRegs, withColours, withColouring, referencesOf}
+use Rattle.blocks.specs.Heap.{Heap, heap, colouring, withRegs, withColouring, referencesOf}
 use Rattle.blocks.specs.WellFormed.{Block}
 use Rattle.blocks.specs.Ready.{Ready}
 use Rattle.blocks.specs.OneUnit.{UnitEnd, metBlock, metWord, begun, marked, allSound, turned, advance, reclaimed, whitened, passed, act, unit, ended}

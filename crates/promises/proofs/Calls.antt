@@ -1,27 +1,23 @@
 -- What is known of each call: the one place that looks at which call it is.
---     after-append, allowed-append, units-allowed     deeds one list after another
---     quiet                    a call that changes nothing
---     acts-once                a call that is refused or does one act
---     by-units                 a call that is refused or does units first
---     known                    what is known of each call
+--     format-known, work-known, allocate-known     Format, Work and Allocate; the others go by their kind (`quiet`, `acts-once`)
+--     known                    each call
 --     calls-are-deeds          a call that doesn't make the heap anew is exactly its deeds
 --     deeds-allowed            each of them is allowed when it is done
 -- Assumes nothing.
-use Prim.Native.Nat.{ℕ, zero, suc, _+_, _*_, _≤_, _<_}
-use mathlib.Core.Path.{_≡_, refl, sym, _∙_, ap, subst}
+use Prim.Native.Nat.{ℕ, _≤_}
+use mathlib.Core.Path.{_≡_, refl, sym, subst}
 use mathlib.Core.Bool.{Bool, true, false, _&&_}
-use mathlib.Core.List.{List, [], _∷_, _++_, map}
+use mathlib.Core.List.{[], _∷_, map}
 use native.Mathlib.Omega.{arith}
 use lib.Dec.{eqb, leb}
 use lib.ListN.{length, replicate}
-use borrow.Author.Tests.{eqb-true, leb-true, ne-eqb}
-use Rattle.blocks.specs.declared.Regs.{Regs}
+use borrow.Author.Tests.{eqb-true, leb-true}
 use Rattle.blocks.specs.declared.ReadAnswer.{ReadAnswer}
 use Rattle.blocks.specs.Tests.{if_then_else_, _▷_}
 use Rattle.blocks.specs.Heap.{Heap}
 use Rattle.blocks.specs.Entry.{numbersFit, lengthsFit, fits, entry, holderPlace}
-use Rattle.blocks.specs.Answers.{Given, refuse, done, unless}
-use Rattle.blocks.specs.Units.{RunEnd, stopped, run}
+use Rattle.blocks.specs.Answers.{refuse, done}
+use Rattle.blocks.specs.Units.{stopped}
 use Rattle.blocks.specs.Format.{formatted, format}
 use Rattle.blocks.specs.Read.{readRefusal, readAnswer, read}
 use Rattle.blocks.specs.Store.{storeRefusal, rootRefusal, storeNumber, storeReference, setRoot}
@@ -31,80 +27,18 @@ use Rattle.blocks.specs.Audit.{audit}
 use Rattle.blocks.specs.WellFormed.{WellFormed}
 use Rattle.blocks.specs.Session.{Call, plainly, does}
 use Rattle.blocks.specs.Session.Call.{Format, Read, Look, StoreNumber, StoreReference, SetRoot, Allocate, Work, Audit}
-use Rattle.blocks.proofs.Tests.{both-true, if-ind, by-test, by-eq, clash}
+use Rattle.blocks.proofs.Tests.{both-true, if-ind, clash}
 use Rattle.blocks.proofs.Entering.{first-zero}
 use Rattle.blocks.proofs.Allocating.{holder-zero}
-use Rattle.promises.specs.Deeds.{Act, aNumber, aReference, aRoot, aTake, acted, Allows, takes, Deed, aUnit, anAct, deed, after, AllAllowed}
-use Rattle.promises.specs.Plans.{Plan, nothing, anewUnless, actUnless, actsUnless, unitsUnless, plan, deeds, Resets}
+use Rattle.promises.specs.Deeds.{aNumber, aReference, aRoot, aTake, acted, aUnit, anAct, deed, after, AllAllowed}
+use Rattle.promises.specs.Plans.{anewUnless, actsUnless, unitsUnless, plan, deeds, Resets}
 use Rattle.promises.specs.Known.{Keeps, Known}
 use Rattle.promises.proofs.Viewing.{wf-shape}
 use Rattle.promises.proofs.TakingMoves.{take-sound}
 use Rattle.promises.proofs.FreshHeap.{fresh-formed}
-use Rattle.promises.proofs.RunMoves.{run-is, Worked, units-worked}
+use Rattle.promises.proofs.RunMoves.{Worked, units-worked}
+use Rattle.promises.proofs.Planning.{after-append, allowed-append, units-allowed, on-test, quiet, acts-once, by-units, due-pace}
 use Rattle.promises.proofs.Refusing.{Fine, small, fine-then, entry-fine, place-fine, count-fine, read-fine, store-fine, root-fine, take-wants}
-
-pub after-append : (ds es : List Deed) (h : Heap) → after (ds ++ es) h ≡ after es (after ds h)
-unfolding after
-after-append [] es h = refl
-after-append (d ∷ ds) es h = after-append ds es (deed d h)
-
-pub allowed-append : (ds es : List Deed) (h : Heap) → AllAllowed ds h → AllAllowed es (after ds h) → AllAllowed (ds ++ es) h
-unfolding after
-allowed-append [] es h a b = b
-allowed-append (d ∷ ds) es h a b = (a .0, allowed-append ds es (deed d h) (a .1) b)
-
-pub units-allowed : (n : ℕ) (h : Heap) → AllAllowed (replicate n aUnit) h
-units-allowed zero h = tt
-units-allowed (suc n) h = (tt, units-allowed n (deed aUnit h))
-
--- what holds by a test, where the test came out true and where it came out false
-pub on-test : (P : Bool → Type 0) (t : Bool) → (t ≡ true → P true) → (t ≡ false → P false) → P t
-on-test P true p q = p refl
-on-test P false p q = q refl
-
-pub quiet : (n : ℕ) (h : Heap) (g : Given) → g .heap ≡ h → Fine (g .answer .refusal) → Keeps (nothing n) h g
-unfolding after
-quiet n h g e r =
-    record {
-      anew = λ z. clash z refl;
-      whole = λ z. e;
-      allowed = tt;
-      paid = omega arith;
-      few = omega arith;
-      undamaged = r .eight;
-      wanting = λ z. absurd (r .seven z);
-    }
-
-pub acts-once : (r : ℕ) (a : Act) (h : Heap) → takes a ≡ 0 → (r ≡ 0 → Allows a h) → Fine r → Keeps (actUnless r a) h (unless r h (done 0 (acted a h)))
-unfolding unless after deed
-acts-once r a h z w x =
-    on-test (λ (t : Bool). Keeps (record { anew = false; asked = 0; units = 0; acts = if t then a ∷ [] else [] }) h (if t then done 0 (acted a h) else refuse r h)) (eqb r 0)
-    (λ t.
-    record {
-      anew = λ y. clash y refl;
-      whole = λ y. refl;
-      allowed = (w (eqb-true r 0 t), tt);
-      paid = rw z (omega arith);
-      few = omega arith;
-      undamaged = λ y. absurd (omega arith);
-      wanting = λ y. absurd (omega arith);
-    })
-    (λ t. quiet 0 h (refuse r h) refl x)
-
-module _ (h : Heap) (f : WellFormed h) (n : ℕ) where
-  abbrev k : Heap
-  k = after (replicate n aUnit) h
-
-  pub by-units : (r b : ℕ) (next : Heap → List Act) (give : RunEnd → Given) → Fine r
-      → (r ≡ 0 → Keeps (record { anew = false; asked = b; units = n; acts = next k }) h (give (stopped 0 n k)))
-      → Keeps (unitsUnless r b n next h) h (unless r h (give (run n 0 h)))
-  unfolding unless
-  by-units r b next give x y =
-      subst (λ (e : RunEnd). Keeps (record { anew = false; asked = b; units = if eqb r 0 then n else 0; acts = actsUnless r (next (e .heap)) }) h (if eqb r 0 then give e else refuse r h))
-      (sym (run-is n h f))
-      (on-test (λ (t : Bool). Keeps (record { anew = false; asked = b; units = if t then n else 0; acts = if t then next k else [] }) h (if t then give (stopped 0 n k) else refuse r h)) (eqb r 0)
-      (λ t. y (eqb-true r 0 t))
-      (λ t. quiet b h (refuse r h) refl x))
 
 -- the numbers that fit
 fit-numbers : (m u lw lc lb : ℕ) → fits m u lw lc lb ≡ true → (1 ≤ m) × (m ≤ 16384) × (u ≤ 65535)
@@ -131,11 +65,6 @@ format-known m u h =
       wanting = λ z. absurd (omega arith);
     })
     (λ t. quiet 0 h (refuse 1 h) refl (small 1 (omega arith)))
-
--- a pace of units is due for a block
-pub due-pace : (r : Regs) → r .pace ≤ unitsDue r
-unfolding unitsDue
-due-pace r = by-eq (r .pace) 0 (λ z. omega arith) (λ z. simp (ne-eqb (r .pace) 0 z) (omega arith))
 
 module _ (h : Heap) (f : WellFormed h) where
   read-answer : (b w : ℕ) → Fine (read b w h .answer .refusal)

@@ -20,7 +20,8 @@ use Rattle.promises.specs.Demand2.{Chain, last, onto, ChangesRoot, Untou
 use Rattle.promises.proofs.Viewing.{wf-shape}
 use Rattle.promises.proofs.RunMoves.{units-worked}
 use Rattle.promises.proofs.DeedMoves.{act-run, deed-formed}
-use Rattle.promises.proofs.Calls.{after-append, known, calls-are-deeds}
+use Rattle.promises.proofs.Planning.{after-append}
+use Rattle.promises.proofs.Calls.{known, calls-are-deeds}
 use Rattle.promises.proofs.Courses.{call-formed}
 use Rattle.promises.proofs.Losing.{word-join, call-safe}
 

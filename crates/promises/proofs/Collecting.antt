@@ -8,8 +8,6 @@ use mathlib.Core.List.{List, _∷_, _++_}
 use Rattle.blocks.specs.Registers.{idle}
 use Rattle.blocks.specs.Heap.{Heap}
 use Rattle.blocks.specs.WellFormed.{Block, WellFormed}
-use Rattle.reach.specs.Sums as sums
-use Rattle.moves.specs.Tints as tints
 use Rattle.moves.specs.Garbage as garbage
 use Rattle.promises.specs.Reachable.{Reachable, IsFree}
 use Rattle.promises.specs.Deeds.{Deed, aUnit, deed, AllAllowed, after}

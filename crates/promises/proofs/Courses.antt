@@ -27,7 +27,8 @@ use Rattle.promises.specs.Sessions.{NoReset, sessionDeeds, Proper, NoBeg
 use Rattle.promises.proofs.Viewing.{wf-shape, wf-sound}
 use Rattle.promises.proofs.Reaching.{reachable-view}
 use Rattle.promises.proofs.DeedMoves.{FreedAt, freed-split, DeedRun, deed-run, deed-formed}
-use Rattle.promises.proofs.Calls.{after-append, allowed-append, known, calls-are-deeds, deeds-allowed}
+use Rattle.promises.proofs.Planning.{after-append, allowed-append}
+use Rattle.promises.proofs.Calls.{known, calls-are-deeds, deeds-allowed}
 
 pub record Ran (m : ℕ) (h : Heap) (ds : List Deed) : Type 0 where
   pub blocks : after ds h .regs .blocks ≡ m

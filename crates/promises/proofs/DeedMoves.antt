@@ -14,7 +14,6 @@ use mathlib.Core.List.{List, _∷_}
 use native.Mathlib.Omega.{arith}
 use lib.Dec.{eqb}
 use lib.ListN.{length}
-use borrow.Author.Tests.{ne-eqb}
 use Rattle.blocks.specs.declared.Regs.{Regs}
 use Rattle.blocks.specs.Registers.{idle, withGrey, withRoot}
 use Rattle.blocks.specs.Heap.{Heap}

@@ -15,6 +15,7 @@ pub mod StoringMoves
 pub mod TakingMoves
 pub mod DeedMoves
 pub mod Refusing
+pub mod Planning
 pub mod Calls
 pub mod Courses
 pub mod Keeping

@@ -21,14 +21,13 @@ use Rattle.moves.specs.Acting.{acts-live, acts-cells}
 use Rattle.promises.specs.View.{view}
 use Rattle.promises.specs.Reachable.{Reachable, IsFree, SameWord}
 use Rattle.promises.specs.Deeds.{Act, Written, aUnit, anAct, deed, AllAllowed, after}
-use Rattle.promises.specs.Plans.{plan, deeds, Resets}
+use Rattle.promises.specs.Plans.{plan, Resets}
 use Rattle.promises.specs.Demand2.{Safe, NothingLost}
 use Rattle.promises.proofs.Viewing.{wf-shape, wf-sound, view-live}
 use Rattle.promises.proofs.Reaching.{reachable-view, view-reachable, free-view, same-word}
 use Rattle.promises.proofs.UnitMoves.{unit-goes}
-use Rattle.promises.proofs.RunMoves.{unit-formed}
 use Rattle.promises.proofs.DeedMoves.{ActRun, act-run, deed-formed}
-use Rattle.promises.proofs.Calls.{known, calls-are-deeds}
+use Rattle.promises.proofs.Calls.{known}
 use Rattle.promises.proofs.Keeping.{session-formed}
 
 pub reachable-live : (h : Heap) → WellFormed h → (b : ℕ) → Reachable h b → formed.Live h b

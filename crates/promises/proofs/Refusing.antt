@@ -56,7 +56,7 @@ pub place-fine : (m b w : ℕ) → Fine (holderPlace m b w)
 unfolding holderPlace
 place-fine m b w = fine-if (eqb b 0 && eqb w 0) (small 0 (omega arith)) (word-fine m b w)
 
-goal-fine : (m t : ℕ) → Fine (targetPlace m t)
+pub goal-fine : (m t : ℕ) → Fine (targetPlace m t)
 unfolding targetPlace
 goal-fine m t = fine-if (isBlockOrNone m t) (small 0 (omega arith)) (small 4 (omega arith))
 
@@ -81,10 +81,10 @@ module _ (h : Heap) (p : Shape h) where
   unfolding targetRefusal
   target-seven t = if-ind (λ (x : ℕ). x ≢ 7) (eqb t 0) (λ e z. absurd (omega arith)) (λ e. not-seven 6 (omega arith) (standingOf h t))
 
-  holder-fine : (b : ℕ) → Block m b → Fine (holderRefusal h b)
+  pub holder-fine : (b : ℕ) → Block m b → Fine (holderRefusal h b)
   holder-fine b l = record { seven = holder-seven b; eight = holder-sound h p b l }
 
-  target-fine : (t : ℕ) → (t ≢ 0 → Block m t) → Fine (targetRefusal h t)
+  pub target-fine : (t : ℕ) → (t ≢ 0 → Block m t) → Fine (targetRefusal h t)
   target-fine t l = record { seven = target-seven t; eight = target-sound h p t l }
 
   pub read-fine : (b w : ℕ) → Fine (readRefusal b w h)

@@ -33,7 +33,8 @@ use Rattle.promises.proofs.Reaching.{view-reachable}
 use Rattle.promises.proofs.Counts.{free-count}
 use Rattle.promises.proofs.RunMoves.{units-worked}
 use Rattle.promises.proofs.FreshHeap.{fresh-tint, fresh-view, fresh-formed}
-use Rattle.promises.proofs.Calls.{after-append, known, calls-are-deeds, deeds-allowed}
+use Rattle.promises.proofs.Planning.{after-append}
+use Rattle.promises.proofs.Calls.{known, calls-are-deeds, deeds-allowed}
 use Rattle.promises.proofs.Courses.{deeds-run, call-formed}
 
 -- a quotient rounded up, times the divisor

@@ -10,7 +10,7 @@ use native.Mathlib.Omega.{arith}
 use lib.ListN.{replicate}
 use Rattle.blocks.specs.Heap.{Heap}
 use Rattle.blocks.specs.OneUnit.{unit}
-use Rattle.blocks.specs.Units.{RunEnd, stopped, run}
+use Rattle.blocks.specs.Units.{stopped, run}
 use Rattle.blocks.specs.WellFormed.{WellFormed}
 use Rattle.blocks.proofs.Tests.{if-true}
 use Rattle.moves.specs.Heaps.{Sound}
