@@ -37,7 +37,7 @@ use Rattle.promises.proofs.Viewing.{wf-shape}
 use Rattle.promises.proofs.TakingMoves.{take-sound}
 use Rattle.promises.proofs.FreshHeap.{fresh-formed}
 use Rattle.promises.proofs.RunMoves.{Worked, units-worked}
-use Rattle.promises.proofs.Planning.{after-append, allowed-append, units-allowed, on-test, quiet, acts-once, by-units, due-pace}
+use Rattle.promises.proofs.Planning.{after-append, allowed-append, units-allowed, on-test, quiet, acts-once, by-units}
 use Rattle.promises.proofs.Refusing.{Fine, small, fine-then, entry-fine, place-fine, count-fine, read-fine, store-fine, root-fine, take-wants}
 
 -- the numbers that fit
@@ -102,7 +102,6 @@ module _ (h : Heap) (f : WellFormed h) where
     take-known l =
         let u = units-done in
         let place : holderPlace (j .regs .blocks) b w ≡ 0 = subst (λ (m : ℕ). holderPlace m b w ≡ 0) (sym (u .blocks)) l in
-        let p = due-pace (h .regs) in
         let s = wf-shape j (u .formed) in
         on-test (λ (t : Bool). Keeps (record { anew = false; asked = 1; units = due; acts = if t then aTake b w ∷ [] else [] }) h (if t then record { answer = record { refusal = 0; value = j .regs .free; units = due }; heap = acted (aTake b w) j } else record { answer = record { refusal = takeRefusal b j; value = 0; units = due }; heap = j }))
         (eqb (takeRefusal b j) 0)

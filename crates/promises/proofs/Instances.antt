@@ -39,7 +39,7 @@ use Rattle.promises.specs.Reachable.{Reachable, isRoot, isNamed, IsFree}
 use Rattle.promises.specs.Deeds.{Act, acted, Deed, aUnit, anAct, deed, after}
 use Rattle.promises.specs.Plans.{plan, deeds}
 use Rattle.promises.specs.Sessions.{NoReset, sessionDeeds, Proper, NoBegin, FreedBy, now, later}
-use Rattle.promises.specs.Demand3.{cycles, Good, Premises}
+use Rattle.promises.specs.Demand3.{cycles, Good, Premises, Asking}
 use Rattle.promises.specs.Instances.{fresh, leaving, before, left, plain, Freed, Survives, HandArithmetic, within, allWithin, namesWithin, closes, pair, goesOn, works, churn, byTurns, rooted, long, Roomy}
 use Rattle.promises.proofs.FreshHeap.{fresh-formed}
 use Rattle.promises.proofs.Collecting.{garbage-goes}
@@ -122,6 +122,11 @@ churn-unreset : (bs : List ℕ) (h : Heap) → NoReset (churn bs) h
 unfolding plan
 churn-unreset [] h = tt
 churn-unreset (b ∷ bs) h = (λ z. clash z refl, churn-unreset bs (does (Allocate b 0) h .heap))
+
+churn-asks : (bs : List ℕ) (h : Heap) → Asking 1 (churn bs) h
+unfolding plan
+churn-asks [] h = tt
+churn-asks (b ∷ bs) h = (omega arith, churn-asks bs (does (Allocate b 0) h .heap))
 
 -- after no deed of ds is g free
 unfoldable neverFree : ℕ → List Deed → Heap → Bool
@@ -220,6 +225,7 @@ roomy =
       many = refl;
       spans = nine;
       premises = long-premises;
+      asking = churn-asks (byTurns rooted) (formatted 20 5);
       fits = enough;
       room = room-enough 20 5 2 long long-premises enough;
       margin = margin 20 5 2 long long-premises;

@@ -4,24 +4,21 @@
 --     quiet                    a call that changes nothing
 --     acts-once                a call that is refused or does one act that takes nothing
 --     by-units                 a call that is refused or does units first: what is left to show is what it does after them
---     due-pace                 the units of an allocation are a pace at least
 -- Assumes nothing.
-use Prim.Native.Nat.{ℕ, zero, suc, _≤_}
+use Prim.Native.Nat.{ℕ, zero, suc}
 use mathlib.Core.Path.{_≡_, refl, sym, subst}
 use mathlib.Core.Bool.{Bool, true, false}
 use mathlib.Core.List.{List, [], _∷_, _++_}
 use native.Mathlib.Omega.{arith}
 use lib.Dec.{eqb}
 use lib.ListN.{replicate}
-use borrow.Author.Tests.{eqb-true, ne-eqb}
-use Rattle.blocks.specs.declared.Regs.{Regs}
+use borrow.Author.Tests.{eqb-true}
 use Rattle.blocks.specs.Tests.{if_then_else_}
 use Rattle.blocks.specs.Heap.{Heap}
 use Rattle.blocks.specs.Answers.{Given, refuse, done, unless}
 use Rattle.blocks.specs.Units.{RunEnd, stopped, run}
-use Rattle.blocks.specs.Allocate.{unitsDue}
 use Rattle.blocks.specs.WellFormed.{WellFormed}
-use Rattle.blocks.proofs.Tests.{by-eq, clash}
+use Rattle.blocks.proofs.Tests.{clash}
 use Rattle.promises.specs.Deeds.{Act, acted, Allows, takes, Deed, aUnit, deed, after, AllAllowed}
 use Rattle.promises.specs.Plans.{nothing, actUnless, actsUnless, unitsUnless}
 use Rattle.promises.specs.Known.{Keeps}
@@ -90,8 +87,3 @@ module _ (h : Heap) (f : WellFormed h) (n : ℕ) where
       (on-test (λ (t : Bool). Keeps (record { anew = false; asked = b; units = if t then n else 0; acts = if t then next k else [] }) h (if t then give (stopped 0 n k) else refuse r h)) (eqb r 0)
       (λ t. y (eqb-true r 0 t))
       (λ t. quiet b h (refuse r h) refl x))
-
--- a pace of units is due for a block
-pub due-pace : (r : Regs) → r .pace ≤ unitsDue r
-unfolding unitsDue
-due-pace r = by-eq (r .pace) 0 (λ z. omega arith) (λ z. simp (ne-eqb (r .pace) 0 z) (omega arith))

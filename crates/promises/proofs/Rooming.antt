@@ -1,5 +1,6 @@
 -- Room is never wanting: the rest of demand 3.
 --     cycles-enough            N cycles' worth of allocations pay for a cycle: 2M + 2 ≤ U · N
+--     due-pace                 the units due for a block are a pace at least
 --     call-event               a call is an event of the abstract collector: its units, and then acts that they have paid for
 --     call-keeps               a call that makes nothing anew keeps M and the pace
 --     room-for, margin-for     the promises where no call asks for more than B blocks
@@ -10,14 +11,18 @@ use Prim.Native.Nat.{ℕ, _+_, _-_, _*_, _/_, _≤_}
 use mathlib.Core.Path.{_≡_, refl, sym, _∙_, ap, subst}
 use mathlib.Core.Logic.{_≢_}
 use mathlib.Core.List.{List, [], _∷_, _++_, map}
-use native.Mathlib.Nat.{div-add-mod, mod-lt}
+use native.Mathlib.Nat.{div-add-mod, mod-lt, mul-le-mul-right}
 use native.Mathlib.Omega.{arith}
 use lib.ListN.{replicate}
+use borrow.Author.Tests.{ne-eqb}
+use Rattle.blocks.specs.declared.Regs.{Regs}
 use Rattle.blocks.specs.Heap.{Heap}
+use Rattle.blocks.specs.Allocate.{unitsDue}
 use Rattle.blocks.specs.WellFormed.{WellFormed}
 use Rattle.blocks.specs.Format.{formatted}
 use Rattle.blocks.specs.Session.{Call, does, session}
 use Rattle.blocks.specs.Session.Call.{Format, Read, Look, StoreNumber, StoreReference, SetRoot, Allocate, Work, Audit}
+use Rattle.blocks.proofs.Tests.{by-eq}
 use Rattle.moves.specs.Heaps.{Sound}
 use Rattle.moves.specs.Runs.{units}
 use Rattle.moves.specs.Bounds.{unused}
@@ -44,6 +49,14 @@ round-up x u l = omega (arith, div-add-mod (x + (u - 1)) u, mod-lt (x + (u - 1))
 pub cycles-enough : (m u : ℕ) → 1 ≤ u → 2 * m + 2 ≤ u * cycles m u
 unfolding cycles
 cycles-enough m u l = round-up (2 * m + 2) u l
+
+-- a pace of units is due for a block
+due-pace : (r : Regs) → r .pace ≤ unitsDue r
+unfolding unitsDue
+due-pace r = by-eq (r .pace) 0 (λ z. omega arith) (λ z. simp (ne-eqb (r .pace) 0 z) (omega arith))
+
+paid-pace : (r : Regs) (n x : ℕ) → unitsDue r * n ≤ x → r .pace * n ≤ x
+paid-pace r n x l = omega (arith, mul-le-mul-right n (due-pace r))
 
 -- acts are no units
 acts-free : (ys : List Act) → unitsIn (map anAct ys) ≡ 0
@@ -74,7 +87,7 @@ call-event m u n c h e q f r b p =
       still = v .units ∙ acts-free (a .acts);
       proper = v .proper (proper-right units (map anAct (a .acts)) h p);
       most = omega (arith, v .taken, k .few, b);
-      pace = rw (v .taken, w .long, ← q) (k .paid);
+      pace = rw (v .taken, w .long, ← q) (paid-pace (h .regs) _ (a .units) (k .paid));
     })
 
 pub call-keeps : (h : Heap) → WellFormed h → (c : Call) → (Resets c h → ⊥) → (does c h .heap .regs .blocks ≡ h .regs .blocks) × (does c h .heap .regs .pace ≡ h .regs .pace)
@@ -126,7 +139,7 @@ module _ (m u k n : ℕ) (cs : List Call) (q : Premises m u k cs) (a : Asking n 
   no-want l c b z =
       let y = known c j (held .formed) .wanting z in
       let w = units-worked m (plan c j .units) j (held .blocks) (held .formed) in
-      let paid : u * asks c j ≤ units (w .run) = rw (w .long) (subst (λ (x : ℕ). x * asks c j ≤ plan c j .units) (held .pace) (y .0)) in
+      let paid : u * asks c j ≤ units (w .run) = rw (w .long) (subst (λ (x : ℕ). x * asks c j ≤ plan c j .units) (held .pace) (paid-pace (j .regs) (asks c j) (plan c j .units) (y .0))) in
       let s = enough-room m u n k (cycles m u) (cycles-enough m u (q .paced)) (view (worked c j)) sound settled (held .events) (w .run) (w .only) (asks c j) b paid l in
       let t = counted (worked c j) (w .blocks) (w .formed) in
       let x = y .1 in

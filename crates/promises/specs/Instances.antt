@@ -25,7 +25,7 @@ use Rattle.blocks.specs.Session.Call.{StoreReference, Allocate, Work}
 use Rattle.promises.specs.Reachable.{Reachable, IsFree}
 use Rattle.promises.specs.Deeds.{aReference, aTake, Deed, aUnit, anAct, deed, after}
 use Rattle.promises.specs.Sessions.{sessionDeeds, Proper, NoBegin, FreedBy}
-use Rattle.promises.specs.Demand3.{cycles, Premises}
+use Rattle.promises.specs.Demand3.{cycles, Premises, Asking}
 
 abbrev pub fresh : Heap
 fresh = formatted 3 1
@@ -135,6 +135,7 @@ pub record Roomy : Type 0 where
   pub many : length long ≡ 200
   pub spans : cycles 20 5 ≡ 9
   pub premises : Premises 20 5 2 long
+  pub asking : Asking 1 long (formatted 20 5)
   pub fits : 2 + 2 * cycles 20 5 ≤ 20
   pub room : (b w : ℕ) → does (Allocate b w) (session long (formatted 20 5)) .answer .refusal ≢ 7
   pub margin : 20 ≤ session long (formatted 20 5) .regs .count + 2 + 2 * cycles 20 5

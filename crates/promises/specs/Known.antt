@@ -11,6 +11,7 @@ use mathlib.Core.Bool.{true}
 use mathlib.Core.List.{map}
 use Rattle.blocks.specs.Heap.{Heap}
 use Rattle.blocks.specs.Answers.{Given}
+use Rattle.blocks.specs.Allocate.{unitsDue}
 use Rattle.blocks.specs.WellFormed.{WellFormed}
 use Rattle.blocks.specs.Session.{Call, does}
 use Rattle.promises.specs.Deeds.{anAct, after, AllAllowed, takesIn}
@@ -21,12 +22,12 @@ pub record Keeps (p : Plan) (h : Heap) (g : Given) : Type 0 where
   pub anew : p .anew ≡ true → WellFormed (g .heap)
   pub whole : (p .anew ≡ true → ⊥) → g .heap ≡ after (deedsOf p) h
   pub allowed : AllAllowed (map anAct (p .acts)) (workedBy p h)
-  -- a pace of units is done for each block taken, and no more are taken than were asked for
-  pub paid : h .regs .pace * takesIn (map anAct (p .acts)) ≤ p .units
+  -- the units due for a block are done for each block taken, and no more are taken than were asked for
+  pub paid : unitsDue (h .regs) * takesIn (map anAct (p .acts)) ≤ p .units
   pub few : takesIn (map anAct (p .acts)) ≤ p .asked
-  -- it doesn't answer 8, and answers 7 only where its units are done and fewer blocks are free than it asks for
+  -- it doesn't answer 8, and answers 7 only where the units due for all it asks for are done and fewer blocks are free then
   pub undamaged : g .answer .refusal ≢ 8
-  pub wanting : g .answer .refusal ≡ 7 → (h .regs .pace * p .asked ≤ p .units) × (workedBy p h .regs .count < p .asked)
+  pub wanting : g .answer .refusal ≡ 7 → (unitsDue (h .regs) * p .asked ≤ p .units) × (workedBy p h .regs .count < p .asked)
 
 abbrev pub Known : Call → Heap → Type 0
 Known c h = Keeps (plan c h) h (does c h)
