@@ -40,7 +40,8 @@ record Left (h : Heap) (r : Regs) (ws cs bs : List ℕ) : Type 0 where
   colours : length cs ≡ length (h .colours)
   bytes : length bs ≡ length (h .bytes)
 
-left-ready : {h : Heap} → Ready h → (r : Regs) (ws cs bs : List ℕ) → Left h r ws cs bs → CourseOf r → (r .free ≢ 0 → Block (r .blocks) (r .free)) → (r .root ≢ 0 → Block (r .blocks) (r .root)) → r .count ≤ r .blocks → Ready (heap r ws cs bs)
+left-ready : {h : Heap} → Ready h → (r : Regs) (ws cs bs : List ℕ) → Left h r ws cs bs → CourseOf r
+    → (r .free ≢ 0 → Block (r .blocks) (r .free)) → (r .root ≢ 0 → Block (r .blocks) (r .root)) → r .count ≤ r .blocks → Ready (heap r ws cs bs)
 left-ready d r ws cs bs l c free root count =
     record {
       some = omega (arith, d .some, l .blocks);
@@ -75,7 +76,8 @@ module _ {h : Heap} (d : Ready h) where
       (course d) (d .free) (d .root) (d .count)
 
   -- other registers, with M and the pace as they are
-  set-ready : (r : Regs) → r .blocks ≡ h .regs .blocks → r .pace ≡ h .regs .pace → CourseOf r → (r .free ≢ 0 → Block (r .blocks) (r .free)) → (r .root ≢ 0 → Block (r .blocks) (r .root)) → r .count ≤ r .blocks → Ready (withRegs r h)
+  set-ready : (r : Regs) → r .blocks ≡ h .regs .blocks → r .pace ≡ h .regs .pace → CourseOf r
+      → (r .free ≢ 0 → Block (r .blocks) (r .free)) → (r .root ≢ 0 → Block (r .blocks) (r .root)) → r .count ≤ r .blocks → Ready (withRegs r h)
   set-ready r e p = left-ready d r (h .words) (h .colours) (h .bytes) (record { blocks = e; pace = p; words = refl; colours = refl; bytes = refl })
 
   pub ready-free : (b : ℕ) → (b ≢ 0 → Block (h .regs .blocks) b) → Ready (withRegs (withFree b (h .regs)) h)

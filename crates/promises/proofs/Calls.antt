@@ -6,12 +6,12 @@
 -- Assumes nothing.
 use Prim.Native.Nat.{ℕ, _≤_}
 use mathlib.Core.Path.{_≡_, refl, sym, subst}
-use mathlib.Core.Bool.{Bool, true, false, _&&_}
+use mathlib.Core.Bool.{Bool, true, _&&_}
 use mathlib.Core.List.{[], _∷_, map}
 use native.Mathlib.Omega.{arith}
 use lib.Dec.{eqb, leb}
 use lib.ListN.{length, replicate}
-use borrow.Author.Tests.{eqb-true, leb-true}
+use borrow.Author.Tests.{leb-true}
 use Rattle.blocks.specs.declared.ReadAnswer.{ReadAnswer}
 use Rattle.blocks.specs.Tests.{if_then_else_, _▷_}
 use Rattle.blocks.specs.Heap.{Heap}
@@ -27,17 +27,17 @@ use Rattle.blocks.specs.Audit.{audit}
 use Rattle.blocks.specs.WellFormed.{WellFormed}
 use Rattle.blocks.specs.Session.{Call, plainly, does}
 use Rattle.blocks.specs.Session.Call.{Format, Read, Look, StoreNumber, StoreReference, SetRoot, Allocate, Work, Audit}
-use Rattle.blocks.proofs.Tests.{both-true, if-ind, clash}
+use Rattle.blocks.proofs.Tests.{both-true, if-ind}
 use Rattle.blocks.proofs.Entering.{first-zero}
 use Rattle.blocks.proofs.Allocating.{holder-zero}
 use Rattle.promises.specs.Deeds.{aNumber, aReference, aRoot, aTake, acted, aUnit, anAct, deed, after, AllAllowed}
-use Rattle.promises.specs.Plans.{anewUnless, actsUnless, unitsUnless, plan, deeds, Resets}
+use Rattle.promises.specs.Plans.{acting, anewUnless, actsUnless, unitsUnless, plan, deeds, Resets}
 use Rattle.promises.specs.Known.{Keeps, Known}
 use Rattle.promises.proofs.Viewing.{wf-shape}
 use Rattle.promises.proofs.TakingMoves.{take-sound}
 use Rattle.promises.proofs.FreshHeap.{fresh-formed}
-use Rattle.promises.proofs.RunMoves.{Worked, units-worked}
-use Rattle.promises.proofs.Planning.{after-append, allowed-append, units-allowed, on-test, quiet, acts-once, by-units}
+use Rattle.promises.proofs.RunMoves.{units-worked}
+use Rattle.promises.proofs.Planning.{allowed-append, units-allowed, on-test, quiet, acts-once, by-units, by-none, by-acts}
 use Rattle.promises.proofs.Refusing.{Fine, small, fine-then, entry-fine, place-fine, count-fine, read-fine, store-fine, root-fine, take-wants}
 
 -- the numbers that fit
@@ -72,19 +72,10 @@ module _ (h : Heap) (f : WellFormed h) where
   read-answer b w = if-ind (λ (x : ReadAnswer). Fine (x .refusal)) (eqb (readRefusal b w h) 0) (λ t. small 0 (omega arith)) (λ t. read-fine h (wf-shape h f) b w)
 
   work-known : (n : ℕ) → Keeps (unitsUnless (entry h ▷ countRefusal n) 0 n (λ k. []) h) h (work n h)
-  unfolding work after
+  unfolding work
   work-known n =
       by-units h f n (entry h ▷ countRefusal n) 0 (λ k. []) worked (fine-then _ _ (entry-fine h (wf-shape h f)) (λ e. count-fine n))
-      (λ z.
-      record {
-        anew = λ y. clash y refl;
-        whole = λ y. sym (after-append (replicate n aUnit) [] h);
-        allowed = tt;
-        paid = omega arith;
-        few = omega arith;
-        undamaged = λ y. absurd (omega arith);
-        wanting = λ y. absurd (omega arith);
-      })
+      (λ z. by-none h f n 0 0 0 (λ y. absurd (omega arith)) (λ y. absurd (omega arith)))
 
   module _ (b w : ℕ) where
     abbrev due : ℕ
@@ -93,38 +84,16 @@ module _ (h : Heap) (f : WellFormed h) where
     abbrev j : Heap
     j = after (replicate due aUnit) h
 
-    units-done : Worked (h .regs .blocks) h due
-    units-done = units-worked (h .regs .blocks) due h refl f
-
     -- an allocation once its units are done
-    take-known : holderPlace (h .regs .blocks) b w ≡ 0 → Keeps (record { anew = false; asked = 1; units = due; acts = actsUnless (takeRefusal b j) (aTake b w ∷ []) }) h (allocated b w (stopped 0 due j))
+    take-known : holderPlace (h .regs .blocks) b w ≡ 0 → Keeps (acting 1 due (actsUnless (takeRefusal b j) (aTake b w ∷ []))) h (allocated b w (stopped 0 due j))
     unfolding allocated _▷_ after deed acted
     take-known l =
-        let u = units-done in
-        let place : holderPlace (j .regs .blocks) b w ≡ 0 = subst (λ (m : ℕ). holderPlace m b w ≡ 0) (sym (u .blocks)) l in
+        let u = units-worked (h .regs .blocks) due h refl f in
         let s = wf-shape j (u .formed) in
-        on-test (λ (t : Bool). Keeps (record { anew = false; asked = 1; units = due; acts = if t then aTake b w ∷ [] else [] }) h (if t then record { answer = record { refusal = 0; value = j .regs .free; units = due }; heap = acted (aTake b w) j } else record { answer = record { refusal = takeRefusal b j; value = 0; units = due }; heap = j }))
-        (eqb (takeRefusal b j) 0)
-        (λ t.
-        record {
-          anew = λ y. clash y refl;
-          whole = λ y. sym (after-append (replicate due aUnit) (anAct (aTake b w) ∷ []) h);
-          allowed = ((place, eqb-true (takeRefusal b j) 0 t), tt);
-          paid = omega arith;
-          few = omega arith;
-          undamaged = λ y. absurd (omega arith);
-          wanting = λ y. absurd (omega arith);
-        })
-        (λ t.
-        record {
-          anew = λ y. clash y refl;
-          whole = λ y. sym (after-append (replicate due aUnit) [] h);
-          allowed = tt;
-          paid = omega arith;
-          few = omega arith;
-          undamaged = take-sound j s b (λ z. holder-zero b w refl place z .0);
-          wanting = λ y. (omega arith, let c = take-wants j s b y in omega arith);
-        })
+        let place : holderPlace (j .regs .blocks) b w ≡ 0 = subst (λ (m : ℕ). holderPlace m b w ≡ 0) (sym (u .blocks)) l in
+        by-acts h f due (takeRefusal b j) 1 (j .regs .free) (aTake b w ∷ []) (λ z. ((place, z), tt)) (omega arith) (omega arith)
+        (take-sound j s b (λ z. holder-zero b w refl place z .0))
+        (λ y. (omega arith, let c = take-wants j s b y in omega arith))
 
     allocate-known : Keeps (unitsUnless (entry h ▷ holderPlace (h .regs .blocks) b w) 1 due (λ k. actsUnless (takeRefusal b k) (aTake b w ∷ [])) h) h (allocate b w h)
     unfolding allocate

@@ -59,7 +59,8 @@ module _ (b : ℕ) where
   ran : (m : ℕ) (a : Act) (h : Heap) → h .regs .blocks ≡ m → WellFormed h → AllAllowed (anAct a ∷ []) h → ActRun m h a
   ran m a h e f x = subst (λ (n : ℕ). ActRun n h a) e (act-run h (wf-shape h f) a (x .0))
 
-  pub acts-stay : (m : ℕ) (ys : List Act) (h : Heap) → h .regs .blocks ≡ m → WellFormed h → AllAllowed (map anAct ys) h → Live m (view h) b → (j : ℕ) → IsFree (after (take j (map anAct ys)) h) b → ⊥
+  pub acts-stay : (m : ℕ) (ys : List Act) (h : Heap) → h .regs .blocks ≡ m → WellFormed h → AllAllowed (map anAct ys) h
+      → Live m (view h) b → (j : ℕ) → IsFree (after (take j (map anAct ys)) h) b → ⊥
   unfolding after deed
   acts-stay m [] h e f x l zero z = l .allocated (free-view z)
   acts-stay m [] h e f x l (suc j) z = l .allocated (free-view z)
@@ -68,7 +69,8 @@ module _ (b : ℕ) where
       let v = ran m a h e f (x .0, tt) in
       acts-stay m ys (deed (anAct a) h) (v .blocks) (deed-formed h f (anAct a) (x .0)) (x .1) (acts-live (v .run) (v .still) l) j z
 
-  pub acts-same : (m : ℕ) (ys : List Act) (h : Heap) → h .regs .blocks ≡ m → WellFormed h → AllAllowed (map anAct ys) h → Live m (view h) b → (w : ℕ) → w ≤ 7 → (Written ys b w → ⊥) → SameWord h (after (map anAct ys) h) b w
+  pub acts-same : (m : ℕ) (ys : List Act) (h : Heap) → h .regs .blocks ≡ m → WellFormed h → AllAllowed (map anAct ys) h
+      → Live m (view h) b → (w : ℕ) → w ≤ 7 → (Written ys b w → ⊥) → SameWord h (after (map anAct ys) h) b w
   unfolding after deed
   acts-same m [] h e f x l w i n = record { word = refl; bit = refl }
   acts-same m (a ∷ ys) h e f x l w i n =
@@ -78,13 +80,15 @@ module _ (b : ℕ) where
       (acts-same m ys (deed (anAct a) h) (v .blocks) (deed-formed h f (anAct a) (x .0)) (x .1) (acts-live (v .run) (v .still) l) w i (λ y. n (inr y)))
 
   -- units, and then acts
-  pub course-kept : (n : ℕ) (ys : List Act) (h : Heap) → WellFormed h → AllAllowed (map anAct ys) (after (replicate n aUnit) h) → Reachable h b → (j : ℕ) → IsFree (after (take j (replicate n aUnit ++ map anAct ys)) h) b → ⊥
+  pub course-kept : (n : ℕ) (ys : List Act) (h : Heap) → WellFormed h → AllAllowed (map anAct ys) (after (replicate n aUnit) h)
+      → Reachable h b → (j : ℕ) → IsFree (after (take j (replicate n aUnit ++ map anAct ys)) h) b → ⊥
   unfolding after
   course-kept zero ys h f x r j z = acts-stay (h .regs .blocks) ys h refl f x (reached-live (wf-sound h f) (reachable-view r)) j z
   course-kept (suc n) ys h f x r zero z = reached-live (wf-sound h f) (reachable-view r) .allocated (free-view z)
   course-kept (suc n) ys h f x r (suc j) z = course-kept n ys (deed aUnit h) (deed-formed h f aUnit tt) x (unit-reachable h f b r) j z
 
-  pub course-same : (n : ℕ) (ys : List Act) (h : Heap) → WellFormed h → AllAllowed (map anAct ys) (after (replicate n aUnit) h) → Reachable h b → (w : ℕ) → w ≤ 7 → (Written ys b w → ⊥) → SameWord h (after (replicate n aUnit ++ map anAct ys) h) b w
+  pub course-same : (n : ℕ) (ys : List Act) (h : Heap) → WellFormed h → AllAllowed (map anAct ys) (after (replicate n aUnit) h)
+      → Reachable h b → (w : ℕ) → w ≤ 7 → (Written ys b w → ⊥) → SameWord h (after (replicate n aUnit ++ map anAct ys) h) b w
   unfolding after
   course-same zero ys h f x r w i y = acts-same (h .regs .blocks) ys h refl f x (reached-live (wf-sound h f) (reachable-view r)) w i y
   course-same (suc n) ys h f x r w i y =

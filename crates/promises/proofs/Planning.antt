@@ -4,23 +4,26 @@
 --     quiet                    a call that changes nothing
 --     acts-once                a call that is refused or does one act that takes nothing
 --     by-units                 a call that is refused or does units first: what is left to show is what it does after them
+--     by-none, by-acts         which is nothing, or acts that may be refused then
 -- Assumes nothing.
-use Prim.Native.Nat.{ℕ, zero, suc}
+use Prim.Native.Nat.{ℕ, zero, suc, _*_, _≤_, _<_}
 use mathlib.Core.Path.{_≡_, refl, sym, subst}
 use mathlib.Core.Bool.{Bool, true, false}
-use mathlib.Core.List.{List, [], _∷_, _++_}
+use mathlib.Core.Logic.{_≢_}
+use mathlib.Core.List.{List, [], _∷_, _++_, map}
 use native.Mathlib.Omega.{arith}
 use lib.Dec.{eqb}
 use lib.ListN.{replicate}
 use borrow.Author.Tests.{eqb-true}
 use Rattle.blocks.specs.Tests.{if_then_else_}
 use Rattle.blocks.specs.Heap.{Heap}
-use Rattle.blocks.specs.Answers.{Given, refuse, done, unless}
+use Rattle.blocks.specs.Answers.{Given, answering, refuse, done, unless}
 use Rattle.blocks.specs.Units.{RunEnd, stopped, run}
+use Rattle.blocks.specs.Allocate.{unitsDue}
 use Rattle.blocks.specs.WellFormed.{WellFormed}
 use Rattle.blocks.proofs.Tests.{clash}
-use Rattle.promises.specs.Deeds.{Act, acted, Allows, takes, Deed, aUnit, deed, after, AllAllowed}
-use Rattle.promises.specs.Plans.{nothing, actUnless, actsUnless, unitsUnless}
+use Rattle.promises.specs.Deeds.{Act, acted, Allows, takes, Deed, aUnit, anAct, deed, after, AllAllowed, takesIn}
+use Rattle.promises.specs.Plans.{acting, nothing, actUnless, actsUnless, unitsUnless}
 use Rattle.promises.specs.Known.{Keeps}
 use Rattle.promises.proofs.RunMoves.{run-is}
 use Rattle.promises.proofs.Refusing.{Fine}
@@ -60,7 +63,7 @@ quiet n h g e r =
 pub acts-once : (r : ℕ) (a : Act) (h : Heap) → takes a ≡ 0 → (r ≡ 0 → Allows a h) → Fine r → Keeps (actUnless r a) h (unless r h (done 0 (acted a h)))
 unfolding unless after deed
 acts-once r a h z w x =
-    on-test (λ (t : Bool). Keeps (record { anew = false; asked = 0; units = 0; acts = if t then a ∷ [] else [] }) h (if t then done 0 (acted a h) else refuse r h)) (eqb r 0)
+    on-test (λ (t : Bool). Keeps (acting 0 0 (if t then a ∷ [] else [])) h (if t then done 0 (acted a h) else refuse r h)) (eqb r 0)
     (λ t.
     record {
       anew = λ y. clash y refl;
@@ -78,12 +81,45 @@ module _ (h : Heap) (f : WellFormed h) (n : ℕ) where
   k = after (replicate n aUnit) h
 
   pub by-units : (r b : ℕ) (next : Heap → List Act) (give : RunEnd → Given) → Fine r
-      → (r ≡ 0 → Keeps (record { anew = false; asked = b; units = n; acts = next k }) h (give (stopped 0 n k)))
+      → (r ≡ 0 → Keeps (acting b n (next k)) h (give (stopped 0 n k)))
       → Keeps (unitsUnless r b n next h) h (unless r h (give (run n 0 h)))
   unfolding unless
   by-units r b next give x y =
-      subst (λ (e : RunEnd). Keeps (record { anew = false; asked = b; units = if eqb r 0 then n else 0; acts = actsUnless r (next (e .heap)) }) h (if eqb r 0 then give e else refuse r h))
+      subst (λ (e : RunEnd). Keeps (acting b (if eqb r 0 then n else 0) (actsUnless r (next (e .heap)))) h (if eqb r 0 then give e else refuse r h))
       (sym (run-is n h f))
-      (on-test (λ (t : Bool). Keeps (record { anew = false; asked = b; units = if t then n else 0; acts = if t then next k else [] }) h (if t then give (stopped 0 n k) else refuse r h)) (eqb r 0)
+      (on-test (λ (t : Bool). Keeps (acting b (if t then n else 0) (if t then next k else [])) h (if t then give (stopped 0 n k) else refuse r h)) (eqb r 0)
       (λ t. y (eqb-true r 0 t))
       (λ t. quiet b h (refuse r h) refl x))
+
+  -- no acts
+  pub by-none : (r b v : ℕ) → r ≢ 8 → (r ≡ 7 → (unitsDue (h .regs) * b ≤ n) × (k .regs .count < b)) → Keeps (acting b n []) h (answering r v n k)
+  unfolding after
+  by-none r b v x y =
+      record {
+        anew = λ z. clash z refl;
+        whole = λ z. sym (after-append (replicate n aUnit) [] h);
+        allowed = tt;
+        paid = omega arith;
+        few = omega arith;
+        undamaged = x;
+        wanting = y;
+      }
+
+  -- the acts ys, unless they are refused by r
+  pub by-acts : (r b v : ℕ) (ys : List Act) → (r ≡ 0 → AllAllowed (map anAct ys) k)
+      → unitsDue (h .regs) * takesIn (map anAct ys) ≤ n → takesIn (map anAct ys) ≤ b
+      → r ≢ 8 → (r ≡ 7 → (unitsDue (h .regs) * b ≤ n) × (k .regs .count < b))
+      → Keeps (acting b n (actsUnless r ys)) h (if eqb r 0 then answering 0 v n (after (map anAct ys) k) else answering r 0 n k)
+  by-acts r b v ys a p q x y =
+      on-test (λ (t : Bool). Keeps (acting b n (if t then ys else [])) h (if t then answering 0 v n (after (map anAct ys) k) else answering r 0 n k)) (eqb r 0)
+      (λ t.
+      record {
+        anew = λ z. clash z refl;
+        whole = λ z. sym (after-append (replicate n aUnit) (map anAct ys) h);
+        allowed = a (eqb-true r 0 t);
+        paid = p;
+        few = q;
+        undamaged = λ z. absurd (omega arith);
+        wanting = λ z. absurd (omega arith);
+      })
+      (λ t. by-none r b 0 x y)

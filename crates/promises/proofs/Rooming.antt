@@ -71,7 +71,8 @@ proper-right (d ∷ ds) es h p = proper-right ds es (deed d h) (p .1)
 few-view : (k : ℕ) (h : Heap) → Few k h → taking.Few k (view h)
 few-view k h f = record { list = f .list; short = f .short; has = λ x r. f .has x (view-reachable r) }
 
-pub call-event : (m u n : ℕ) (c : Call) (h : Heap) → h .regs .blocks ≡ m → h .regs .pace ≡ u → WellFormed h → (Resets c h → ⊥) → asks c h ≤ n → Proper (deeds c h) h → Event m u n (view h) (view (does c h .heap))
+pub call-event : (m u n : ℕ) (c : Call) (h : Heap) → h .regs .blocks ≡ m → h .regs .pace ≡ u → WellFormed h → (Resets c h → ⊥)
+    → asks c h ≤ n → Proper (deeds c h) h → Event m u n (view h) (view (does c h .heap))
 call-event m u n c h e q f r b p =
     let a = plan c h in
     let k = known c h f in
@@ -102,7 +103,8 @@ record Held (m u k n : ℕ) (h j : Heap) : Type 0 where
   pace : j .regs .pace ≡ u
   formed : WellFormed j
 
-session-held : (m u k n : ℕ) (cs : List Call) (h : Heap) → h .regs .blocks ≡ m → h .regs .pace ≡ u → WellFormed h → NoReset cs h → Asking n cs h → Good k cs h → Held m u k n h (session cs h)
+session-held : (m u k n : ℕ) (cs : List Call) (h : Heap) → h .regs .blocks ≡ m → h .regs .pace ≡ u → WellFormed h
+    → NoReset cs h → Asking n cs h → Good k cs h → Held m u k n h (session cs h)
 unfolding session
 session-held m u k n [] h e q f r a g = record { events = over; blocks = e; pace = q; formed = f }
 session-held m u k n (c ∷ cs) h e q f r a g =

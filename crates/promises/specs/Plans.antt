@@ -33,9 +33,13 @@ pub record Plan : Type 0 where
   pub units : ℕ
   pub acts : List Act
 
--- nothing happens, though n blocks may have been asked for
+-- n units and then the acts ys, for which b blocks are asked
+abbrev pub acting : ℕ → ℕ → List Act → Plan
+acting b n ys = record { anew = false; asked = b; units = n; acts = ys }
+
+-- nothing happens, though b blocks may have been asked for
 abbrev pub nothing : ℕ → Plan
-nothing n = record { anew = false; asked = n; units = 0; acts = [] }
+nothing b = acting b 0 []
 
 -- unless it is refused by r: the heap is made anew
 abbrev pub anewUnless : ℕ → Plan
@@ -45,14 +49,13 @@ anewUnless r = record { anew = eqb r 0; asked = 0; units = 0; acts = [] }
 abbrev pub actsUnless : ℕ → List Act → List Act
 actsUnless r ys = if eqb r 0 then ys else []
 
--- one act alone
+-- unless it is refused by r: one act
 abbrev pub actUnless : ℕ → Act → Plan
-actUnless r a = record { anew = false; asked = 0; units = 0; acts = actsUnless r (a ∷ []) }
+actUnless r a = acting 0 0 (actsUnless r (a ∷ []))
 
--- n units, and then the acts that the heap after them allows, for which b blocks are asked
+-- unless it is refused by r: n units, and then the acts that go by the heap after them
 abbrev pub unitsUnless : ℕ → ℕ → ℕ → (Heap → List Act) → Heap → Plan
-unitsUnless r b n next h =
-    record { anew = false; asked = b; units = if eqb r 0 then n else 0; acts = actsUnless r (next (run n 0 h .heap)) }
+unitsUnless r b n next h = acting b (if eqb r 0 then n else 0) (actsUnless r (next (run n 0 h .heap)))
 
 unfoldable pub plan : Call → Heap → Plan
 plan (Format m u) h = anewUnless (format m u h .answer .refusal)
