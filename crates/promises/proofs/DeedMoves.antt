@@ -26,7 +26,7 @@ use Rattle.blocks.proofs.Allocating.{holder-zero}
 use Rattle.blocks.proofs.Storing.{barrier-grey}
 use Rattle.reach.specs.Sums as sums
 use Rattle.moves.specs.Tints as tints
-use Rattle.moves.specs.Heaps.{Abs, Reached, Sound}
+use Rattle.moves.specs.Heaps.{Abs, Reached, Live, Sound}
 use Rattle.moves.specs.Moves.{Move}
 use Rattle.moves.specs.Moves.Move.{writeNumber, writeRef, setRoot, takeHeld, takeRoot}
 use Rattle.moves.specs.Kinds.{begun, begins?, unit-none}
@@ -52,7 +52,7 @@ pub record ActRun (m : ℕ) (h : Heap) (a : Act) : Type 0 where
   pub shape : Shape (acted a h)
   pub proper : (target a ≢ 0 → Reached (view h) (target a)) → ProperRun run
   pub taken : length (runs.taken run) ≡ takes a
-  pub writes : (b w : ℕ) → view h .tint b ≢ tints.Free → WritesIn run b w → Writes a b w
+  pub writes : (b w : ℕ) → Live m (view h) b → WritesIn run b w → Writes a b w
   pub root : (SetsRoot a → ⊥) → acted a h .regs .root ≡ h .regs .root
 
 -- the barrier keeps M, the pace and the root

@@ -76,7 +76,7 @@ module _ (b : ℕ) where
   acts-same m (a ∷ ys) h e f x l w i n =
       let v = ran m a h e f (x .0, tt) in
       word-join
-      (same-word i (acts-cells (v .run) (v .still) l w (λ y. n (inl (v .writes b w (l .allocated) y)))))
+      (same-word i (acts-cells (v .run) (v .still) l w (λ y. n (inl (v .writes b w l y)))))
       (acts-same m ys (deed (anAct a) h) (v .blocks) (deed-formed h f (anAct a) (x .0)) (x .1) (acts-live (v .run) (v .still) l) w i (λ y. n (inr y)))
 
   -- units, and then acts
