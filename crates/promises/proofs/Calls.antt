@@ -31,7 +31,7 @@ use Rattle.blocks.proofs.Tests.{both-true, if-ind}
 use Rattle.blocks.proofs.Entering.{first-zero}
 use Rattle.blocks.proofs.Allocating.{holder-zero}
 use Rattle.promises.specs.Deeds.{aNumber, aReference, aRoot, aTake, acted, aUnit, anAct, deed, after, AllAllowed}
-use Rattle.promises.specs.Plans.{acting, anewUnless, actsUnless, unitsUnless, plan, deeds, Resets}
+use Rattle.promises.specs.Plans.{acting, anewUnless, actsUnless, plan, deeds, Resets}
 use Rattle.promises.specs.Known.{Keeps, Known}
 use Rattle.promises.proofs.Viewing.{wf-shape}
 use Rattle.promises.proofs.TakingMoves.{take-sound}
@@ -49,8 +49,8 @@ fit-numbers m u lw lc lb e =
     let c = both-true (leb m 16384) (leb u 65535) (b .1) in
     (leb-true 1 m (b .0), leb-true m 16384 (c .0), leb-true u 65535 (c .1))
 
-format-known : (m u : ℕ) (h : Heap) → Keeps (anewUnless (format m u h .answer .refusal)) h (format m u h)
-unfolding format
+format-known : (m u : ℕ) (h : Heap) → Known (Format m u) h
+unfolding plan does format
 format-known m u h =
     on-test (λ (t : Bool). Keeps (anewUnless ((if t then done 0 (formatted m u) else refuse 1 h) .answer .refusal)) h (if t then done 0 (formatted m u) else refuse 1 h))
     (fits m u (length (h .words)) (length (h .colours)) (length (h .bytes)))
@@ -69,10 +69,11 @@ format-known m u h =
 module _ (h : Heap) (f : WellFormed h) where
   read-answer : (b w : ℕ) → Fine (read b w h .answer .refusal)
   unfolding read readAnswer
-  read-answer b w = if-ind (λ (x : ReadAnswer). Fine (x .refusal)) (eqb (readRefusal b w h) 0) (λ t. small 0 (omega arith)) (λ t. read-fine h (wf-shape h f) b w)
+  read-answer b w =
+      if-ind (λ (x : ReadAnswer). Fine (x .refusal)) (eqb (readRefusal b w h) 0) (λ t. small 0 (omega arith)) (λ t. read-fine h (wf-shape h f) b w)
 
-  work-known : (n : ℕ) → Keeps (unitsUnless (entry h ▷ countRefusal n) 0 n (λ k. []) h) h (work n h)
-  unfolding work
+  work-known : (n : ℕ) → Known (Work n) h
+  unfolding plan does work
   work-known n =
       by-units h f n (entry h ▷ countRefusal n) 0 (λ k. []) worked (fine-then _ _ (entry-fine h (wf-shape h f)) (λ e. count-fine n))
       (λ z. by-none h f n 0 0 0 (λ y. absurd (omega arith)) (λ y. absurd (omega arith)))
@@ -85,7 +86,8 @@ module _ (h : Heap) (f : WellFormed h) where
     j = after (replicate due aUnit) h
 
     -- an allocation once its units are done
-    take-known : holderPlace (h .regs .blocks) b w ≡ 0 → Keeps (acting 1 due (actsUnless (takeRefusal b j) (aTake b w ∷ []))) h (allocated b w (stopped 0 due j))
+    take-known : holderPlace (h .regs .blocks) b w ≡ 0
+        → Keeps (acting 1 due (actsUnless (takeRefusal b j) (aTake b w ∷ []))) h (allocated b w (stopped 0 due j))
     unfolding allocated _▷_ after deed acted
     take-known l =
         let u = units-worked (h .regs .blocks) due h refl f in
@@ -95,8 +97,8 @@ module _ (h : Heap) (f : WellFormed h) where
         (take-sound j s b (λ z. holder-zero b w refl place z .0))
         (λ y. (omega arith, let c = take-wants j s b y in omega arith))
 
-    allocate-known : Keeps (unitsUnless (entry h ▷ holderPlace (h .regs .blocks) b w) 1 due (λ k. actsUnless (takeRefusal b k) (aTake b w ∷ [])) h) h (allocate b w h)
-    unfolding allocate
+    allocate-known : Known (Allocate b w) h
+    unfolding plan does allocate
     allocate-known =
         by-units h f due (entry h ▷ holderPlace (h .regs .blocks) b w) 1 (λ k. actsUnless (takeRefusal b k) (aTake b w ∷ [])) (allocated b w)
         (fine-then _ _ (entry-fine h (wf-shape h f)) (λ e. place-fine (h .regs .blocks) b w))
@@ -119,4 +121,6 @@ module _ (h : Heap) (f : WellFormed h) (c : Call) where
   calls-are-deeds n = known c h f .whole n
 
   pub deeds-allowed : AllAllowed (deeds c h) h
-  deeds-allowed = allowed-append (replicate (plan c h .units) aUnit) (map anAct (plan c h .acts)) h (units-allowed (plan c h .units) h) (known c h f .allowed)
+  deeds-allowed =
+      let p = plan c h in
+      allowed-append (replicate (p .units) aUnit) (map anAct (p .acts)) h (units-allowed (p .units) h) (known c h f .allowed)

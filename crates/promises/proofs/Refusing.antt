@@ -2,7 +2,8 @@
 --     Fine r                   the refusal number r is neither 7 nor 8
 --     small                    every number below 7 is fine
 --     fine-if, fine-then       a choice of two, and the first of two
---     entry-fine, word-fine, place-fine, count-fine, read-fine, store-fine, root-fine     the tests that are fine
+--     entry-fine, word-fine, place-fine, goal-fine, holder-fine, target-fine, count-fine     the tests one by one
+--     read-fine, store-fine, root-fine     those of the calls that take nothing
 --     take-wants               an allocation is refused by 7 only where no block is free
 -- Assumes nothing.
 use Prim.Native.Nat.{ℕ, _<_}

@@ -43,7 +43,7 @@ pub record Safe (c : Call) (h : Heap) : Type 0 where
   pub kept : (b : ℕ) → Reachable h b → (j : ℕ) → IsFree (after (take j (deeds c h)) h) b → ⊥
   -- the deeds lead to the heap that the call leaves
   pub whole : does c h .heap ≡ after (deeds c h) h
-  -- its words and reference bits stay, but for the one that the call names
+  -- its words and reference bits stay, but for those that the call writes
   pub same : (b w : ℕ) → Reachable h b → w ≤ 7 → (TouchesCall c h b w → ⊥) → SameWord h (does c h .heap) b w
 
 pub record NothingLost : Type 0 where
