@@ -37,13 +37,13 @@ use Rattle.blocks.proofs.Tests.{both-true, either-true, if-ind, clash}
 use Rattle.meaning.proofs.Words.{names-member}
 use Rattle.promises.specs.Reachable.{Reachable, isRoot, isNamed, IsFree}
 use Rattle.promises.specs.Deeds.{Act, acted, Deed, aUnit, anAct, deed, after}
-use Rattle.promises.specs.Plans.{plan, deeds}
+use Rattle.promises.specs.Plans.{plan, deeds, asks}
 use Rattle.promises.specs.Sessions.{NoReset, sessionDeeds, Proper, NoBegin, FreedBy, now, later}
 use Rattle.promises.specs.Demand3.{cycles, Good, Premises, Asking}
 use Rattle.promises.specs.Instances.{fresh, leaving, before, left, plain, Freed, Survives, HandArithmetic, within, allWithin, namesWithin, closes, pair, goesOn, works, churn, byTurns, rooted, long, Roomy}
 use Rattle.promises.proofs.FreshHeap.{fresh-formed}
 use Rattle.promises.proofs.Collecting.{garbage-goes}
-use Rattle.promises.proofs.Rooming.{room-enough, margin}
+use Rattle.promises.proofs.Rooming.{room-for, margin-for}
 
 within-has : (x : ℕ) (l : List ℕ) → within x l ≡ true → x ≢ 0 → List·Memᴰ x l
 unfolding within
@@ -219,14 +219,21 @@ nine = refl
 enough : 2 + 2 * cycles 20 5 ≤ 20
 enough = rw nine (omega arith)
 
+one-at-a-time : Asking 1 long (formatted 20 5)
+one-at-a-time = churn-asks (byTurns rooted) (formatted 20 5)
+
+one-more : (b w : ℕ) (h : Heap) → asks (Allocate b w) h ≤ 1
+unfolding plan
+one-more b w h = omega arith
+
 pub roomy : Roomy
 roomy =
     record {
       many = refl;
       spans = nine;
       premises = long-premises;
-      asking = churn-asks (byTurns rooted) (formatted 20 5);
+      asking = one-at-a-time;
       fits = enough;
-      room = room-enough 20 5 2 long long-premises enough;
-      margin = margin 20 5 2 long long-premises;
+      room = λ b w. room-for .further 20 5 2 1 long long-premises one-at-a-time (omega (arith, enough)) (Allocate b w) (one-more b w (session long (formatted 20 5)));
+      margin = omega (arith, margin-for 20 5 2 1 long long-premises one-at-a-time);
     }
