@@ -1,7 +1,6 @@
 -- Acts in a row: runs of the running program's moves, with no unit among them.
---     act-changes          a move that is no unit is a Mutation
---     act-live, acts-live  a live block stays live, so none is freed that was live
---     acts-kept            no block is freed at all
+--     acts-live            a live block stays live
+--     act-kept             no block is freed
 --     WritesIn r b w       some move of the run writes word w of b
 --     acts-cells           a live block's word that none of them writes is as it was
 --     acts-begin, acts-mark     none begins a cycle, none marks
@@ -22,7 +21,8 @@ use Rattle.moves.specs.Mutating.{Mutation, tinted-kept, tinted-live, num
 use Rattle.moves.specs.Safety.{SameCell, cells-kept}
 use Rattle.moves.specs.Runs.{Run, rest, step, joined, units, marks, begins, taken}
 
-pub act-changes : {M : ℕ} {h k : Abs} (m : Move M h k) → cost m ≡ 0 → (n : ℕ) × Mutation M n h k
+-- a move that is no unit is a Mutation
+act-changes : {M : ℕ} {h k : Abs} (m : Move M h k) → cost m ≡ 0 → (n : ℕ) × Mutation M n h k
 act-changes (begin m) e = never (sym e)
 act-changes (mark b m) e = never (sym e)
 act-changes (turn m) e = never (sym e)
@@ -49,16 +49,15 @@ WritesIn rest b w = ⊥
 WritesIn (step m r) b w = Writes m b w ⊎ WritesIn r b w
 
 module _ {M : ℕ} where
-  pub act-live : {h k : Abs} (m : Move M h k) → cost m ≡ 0 → {b : ℕ} → Live M h b → Live M k b
+  act-live : {h k : Abs} (m : Move M h k) → cost m ≡ 0 → {b : ℕ} → Live M h b → Live M k b
   act-live m e {b} l = let q = act-changes m e .1 in tinted-live (q .steady) (q .tints b (l .block)) l
 
   pub acts-live : {h k : Abs} (r : Run M h k) → units r ≡ 0 → {b : ℕ} → Live M h b → Live M k b
   acts-live rest z l = l
   acts-live (step m r) z l = acts-live r (omega arith) (act-live m (omega arith) l)
 
-  pub acts-kept : {h k : Abs} (r : Run M h k) → units r ≡ 0 → {b : ℕ} → Block M b → h .tint b ≢ Free → k .tint b ≢ Free
-  acts-kept rest z l n = n
-  acts-kept (step m r) z {b} l n = acts-kept r (omega arith) l (tinted-kept (act-changes m (omega arith) .1 .tints b l) n)
+  pub act-kept : {h k : Abs} (m : Move M h k) → cost m ≡ 0 → {b : ℕ} → Block M b → h .tint b ≢ Free → k .tint b ≢ Free
+  act-kept m e {b} l n = tinted-kept (act-changes m e .1 .tints b l) n
 
   pub acts-cells : {h k : Abs} (r : Run M h k) → units r ≡ 0 → {b : ℕ} → Live M h b → (w : ℕ) → (WritesIn r b w → ⊥) → SameCell h k b w
   acts-cells rest z l w n = record { word = refl; bit = refl }

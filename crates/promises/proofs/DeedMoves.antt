@@ -31,10 +31,9 @@ use Rattle.moves.specs.Moves.{Move}
 use Rattle.moves.specs.Moves.Move.{writeNumber, writeRef, setRoot, takeHeld, takeRoot}
 use Rattle.moves.specs.Kinds.{begun, begins?, unit-none}
 use Rattle.moves.specs.Kinds as kinds
-use Rattle.moves.specs.Mutating.{tinted-kept}
 use Rattle.moves.specs.Runs.{Run, rest, step, joined, units, marks, begins, ProperRun, FreedIn, freed-now, freed-later, run-sound}
 use Rattle.moves.specs.Runs as runs
-use Rattle.moves.specs.Acting.{WritesIn, act-changes, acts-begin, acts-mark}
+use Rattle.moves.specs.Acting.{WritesIn, act-kept, acts-begin, acts-mark}
 use Rattle.promises.specs.View.{view, Shape}
 use Rattle.promises.specs.Deeds.{Act, aNumber, aReference, aRoot, aTake, acted, Allows, target, takes, Writes, SetsRoot, Deed, aUnit, anAct, deed, Allowed, costs, names, takings}
 use Rattle.promises.specs.Sessions.{Begins, marking?, FreedBy, now}
@@ -127,8 +126,8 @@ freed-split g (step m r) s x = ⊎-elim (λ y. inl (inl y)) (λ y. ⊎-elim (λ 
 -- acts free nothing
 acts-freed : {M g : ℕ} {h k : Abs} (r : Run M h k) → units r ≡ 0 → sums.Block M g → FreedAt g r → ⊥
 acts-freed rest z l x = x
-acts-freed {g} (step m r) z l x =
-    ⊎-elim (λ y. tinted-kept (act-changes m (omega arith) .1 .tints g l) (y .0) (y .1)) (λ y. acts-freed r (omega arith) l y) x
+acts-freed (step m r) z l x =
+    ⊎-elim (λ y. act-kept m (omega arith) l (y .0) (y .1)) (λ y. acts-freed r (omega arith) l y) x
 
 -- a unit on a heap that isn't idle begins nothing
 idle-begins : {M : ℕ} {h k : Abs} (m : Move M h k) → (h .phase ≡ idle → ⊥) → begun m ≡ 0
