@@ -15,9 +15,9 @@ use Rattle.blocks.specs.Read.{readRefusal, readAnswer, read}
 use Rattle.blocks.specs.Store.{barrier, putNumber, putReference, storeNumber, storeRefusal, storeReference}
 use Rattle.blocks.specs.Allocate.{unitsDue, firstFits, listRefusal, newColour, taken, held, takeRefusal, allocated, allocate}
 use Rattle.blocks.specs.Work.{countRefusal, work}
-use Rattle.blocks.specs.Session.{does, session, lastOf}
-use Rattle.blocks.specs.Cases.{HandChecked}
+use Rattle.blocks.specs.Session.{does, session}
+use Rattle.blocks.specs.Cases.{unitsOver, HandChecked}
 
 pub hand-checked : HandChecked
-unfolding _▷_ isBlock eightWords withEight bit withBit withoutBit referencesFrom colour greyWhite greyAll isAllocated headLegal doomedWhite standing standingOf holderRefusal targetRefusal numbersFit lengthsFit fits isBlockOrNone positionLegal legal entry wordRefusal holderPlace targetPlace unless step metBlock metWord begun marked allSound turned advance reclaimed whitened passed act unit run freeList formatted format readRefusal readAnswer read barrier putNumber putReference storeNumber storeRefusal storeReference unitsDue firstFits listRefusal newColour taken held takeRefusal allocated allocate countRefusal work does session lastOf
+unfolding _▷_ isBlock eightWords withEight bit withBit withoutBit referencesFrom colour greyWhite greyAll isAllocated headLegal doomedWhite standing standingOf holderRefusal targetRefusal numbersFit lengthsFit fits isBlockOrNone positionLegal legal entry wordRefusal holderPlace targetPlace unless step metBlock metWord begun marked allSound turned advance reclaimed whitened passed act unit run freeList formatted format readRefusal readAnswer read barrier putNumber putReference storeNumber storeRefusal storeReference unitsDue firstFits listRefusal newColour taken held takeRefusal allocated allocate countRefusal work does session unitsOver
 hand-checked = refl

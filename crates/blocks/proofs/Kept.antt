@@ -19,10 +19,10 @@ use Rattle.blocks.specs.declared.Regs.{Regs}
 use Rattle.blocks.specs.declared.Colour.the-variants.{Grey}
 use Rattle.blocks.specs.declared.Progress.{Progress}
 use Rattle.blocks.specs.declared.Progress.the-variants.{Done}
-use Rattle.blocks.specs.Registers.{idle, marking, sweeping, withPhase, withFree, withCount, withCycle, nextCycle, sweepEnd}
+use Rattle.blocks.specs.Registers.{idle, marking, sweeping, withPhase, withCycle, nextCycle, sweepEnd}
 use Rattle.blocks.specs.Block.{isBlock, withEight, freeWords, clearByte}
 use Rattle.blocks.specs.Colouring.{Colouring, white, black, freed, colour, colourWord, paint, toBlack, greyWhite, greyAll, headLegal}
-use Rattle.blocks.specs.Heap.{Heap, heap, colouring, withRegs, withColours, withColouring, referencesOf}
+use Rattle.blocks.specs.Heap.{Heap, heap, colouring, withRegs, withColouring, referencesOf}
 use Rattle.blocks.specs.WellFormed.{Block}
 use Rattle.blocks.specs.Ready.{Ready}
 use Rattle.blocks.specs.OneUnit.{UnitEnd, metBlock, metWord, begun, marked, allSound, turned, advance, reclaimed, whitened, passed, act, unit, ended}
@@ -31,6 +31,7 @@ use Rattle.blocks.proofs.Tests.{both-true, by-test, by-eq, if-ind}
 use Rattle.blocks.proofs.Blocks.{isBlock-block, block-isBlock}
 use Rattle.blocks.proofs.Colours.{head-block}
 use Rattle.blocks.proofs.Steps.{never, step-cases}
+use Rattle.blocks.proofs.Setting.{ready-words, ready-colours, ready-bytes, ready-grey, ready-free, ready-count, ready-cycle, ready-course}
 
 -- legal grey heads
 pub head-one : (m p : ℕ) → headLegal m p 1 ≡ true
@@ -84,107 +85,34 @@ length-eight m ws b x l e = simp (length-append, length-take, length-drop) (omeg
 pub advance-kept : (h : Heap) → Ready h → h .regs .phase ≡ sweeping → Ready (withRegs (advance (h .regs)) h)
 unfolding advance
 advance-kept h d s =
+    let off : h .regs .phase ≢ marking = λ z. absurd (omega arith) in
     if-ind (λ (r : Regs). Ready (withRegs r h)) (eqb (h .regs .position) (sweepEnd (h .regs)))
     (λ e.
-    record {
-      some = d .some;
-      most = d .most;
-      pace = d .pace;
-      words = d .words;
-      colours = d .colours;
-      bytes = d .bytes;
-      phase = omega arith;
-      grey = rw (head-elsewhere _ _ _ off (d .grey)) (head-one _ _);
-      free = d .free;
-      root = d .root;
-      count = d .count;
-      placed = λ z. absurd (omega arith);
-      parked = λ z. refl;
-    })
+    ready-course d idle 0
+    (record { phase = omega arith; grey = rw (head-elsewhere _ _ _ off (d .grey)) (head-one _ _); placed = λ z. absurd (omega arith); parked = λ z. refl }))
     (λ e.
     let n : h .regs .position ≢ sweepEnd (h .regs) = eqb-false _ _ e in
     let p = d .placed s in
-    record {
-      some = d .some;
-      most = d .most;
-      pace = d .pace;
-      words = d .words;
-      colours = d .colours;
-      bytes = d .bytes;
-      phase = d .phase;
-      grey = d .grey;
-      free = d .free;
-      root = d .root;
-      count = d .count;
-      placed = λ z. (omega arith, omega arith);
-      parked = λ z. absurd (z s);
-    })
-  where
-    off : h .regs .phase ≢ marking
-    off z = absurd (omega arith)
+    ready-course d (h .regs .phase) (h .regs .position + 1)
+    (record { phase = d .phase; grey = d .grey; placed = λ z. (omega arith, omega arith); parked = λ z. absurd (z s) }))
 
 pub begun-kept : (h : Heap) → Ready h → h .regs .phase ≡ idle → Ready (begun h)
 unfolding begun
 begun-kept h d i =
+    let off : h .regs .phase ≢ marking = λ z. absurd (omega arith) in
+    let still : h .regs .phase ≢ sweeping = λ z. absurd (omega arith) in
+    let c : Ready (withRegs (withPhase marking (withCycle (nextCycle (h .regs .cycle)) (h .regs))) h) =
+    ready-course (ready-cycle d (nextCycle (h .regs .cycle))) marking (h .regs .position)
+    (record { phase = omega arith; grey = rw (head-elsewhere _ _ _ off (d .grey)) (head-one _ _); placed = λ z. absurd (omega arith); parked = λ z. d .parked still }) in
     if-ind (λ (k : Colouring). Ready (withColouring k (withRegs (withPhase marking (withCycle (nextCycle (h .regs .cycle)) (h .regs))) h))) (eqb (h .regs .root) 0)
-    (λ e.
-    record {
-      some = d .some;
-      most = d .most;
-      pace = d .pace;
-      words = d .words;
-      colours = d .colours;
-      bytes = d .bytes;
-      phase = omega arith;
-      grey = rw (head-elsewhere _ _ _ off (d .grey)) (head-one _ _);
-      free = d .free;
-      root = d .root;
-      count = d .count;
-      placed = λ z. absurd (omega arith);
-      parked = λ z. d .parked still;
-    })
-    (λ e.
-    record {
-      some = d .some;
-      most = d .most;
-      pace = d .pace;
-      words = d .words;
-      colours = simp length-set (d .colours);
-      bytes = d .bytes;
-      phase = omega arith;
-      grey = head-of-block _ _ (d .root (eqb-false _ _ e));
-      free = d .free;
-      root = d .root;
-      count = d .count;
-      placed = λ z. absurd (omega arith);
-      parked = λ z. d .parked still;
-    })
-  where
-    off : h .regs .phase ≢ marking
-    off z = absurd (omega arith)
-
-    still : h .regs .phase ≢ sweeping
-    still z = absurd (omega arith)
+    (λ e. c)
+    (λ e. ready-colours (ready-grey c (h .regs .root) (head-of-block _ _ (d .root (eqb-false _ _ e)))) _ (simp length-set))
 
 pub marked-kept : (h : Heap) → Ready h → h .regs .phase ≡ marking → Block (h .regs .blocks) (h .regs .grey) → colour (h .regs .blocks) (colourWord (h .colours) (h .regs .grey)) ≡ Grey → Ready (marked h)
 unfolding marked
 marked-kept h d s l g =
     let k = greyAll-kept (h .regs .blocks) (h .regs .blocks) (referencesOf h (h .regs .grey)) (toBlack (colouring h)) (record { legal = next-legal _ _ g; same = simp length-set (d .colours) }) in
-    record {
-      some = d .some;
-      most = d .most;
-      pace = d .pace;
-      words = d .words;
-      colours = k .same;
-      bytes = d .bytes;
-      phase = d .phase;
-      grey = rw s (k .legal);
-      free = d .free;
-      root = d .root;
-      count = d .count;
-      placed = d .placed;
-      parked = d .parked;
-    }
+    ready-colours (ready-grey d _ (rw s (k .legal))) _ (k .same ∙ sym (d .colours))
 
 -- while marking, the block met is the grey head
 pub met-grey : (h : Heap) → h .regs .phase ≡ marking → Block (h .regs .blocks) (h .regs .grey) → colour (h .regs .blocks) (colourWord (h .colours) (h .regs .grey)) ≡ colour (h .regs .blocks) (metWord h)
@@ -195,21 +123,8 @@ pub turned-kept : (h : Heap) → Ready h → h .regs .grey ≡ 1 → Ready (turn
 unfolding turned
 turned-kept h d g =
     let b = d .some in
-    record {
-      some = d .some;
-      most = d .most;
-      pace = d .pace;
-      words = d .words;
-      colours = d .colours;
-      bytes = d .bytes;
-      phase = omega arith;
-      grey = rw g (head-one _ _);
-      free = d .free;
-      root = d .root;
-      count = d .count;
-      placed = λ z. (omega arith, omega arith);
-      parked = λ z. absurd (z refl);
-    }
+    ready-course d sweeping 2
+    (record { phase = omega arith; grey = rw g (head-one _ _); placed = λ z. (omega arith, omega arith); parked = λ z. absurd (z refl) })
 
 pub reclaimed-kept : (h : Heap) → Ready h → h .regs .phase ≡ sweeping → h .regs .count ≢ h .regs .blocks → Ready (reclaimed h)
 unfolding reclaimed
@@ -217,49 +132,18 @@ reclaimed-kept h d s n =
     let p = d .placed s in
     let b : Block (h .regs .blocks) (h .regs .position) = record { low = p .0; high = p .1 } in
     let c = d .count in
-    advance-kept
-    (heap
-    (withCount (h .regs .count + 1) (withFree (h .regs .position) (h .regs)))
-    (withEight (h .words) (h .regs .position) (freeWords (h .regs .free)))
-    (paint (h .regs .position) freed (h .colours))
-    (clearByte (h .bytes) (h .regs .position)))
-    (record {
-      some = d .some;
-      most = d .most;
-      pace = d .pace;
-      words = length-eight _ _ _ _ b (d .words) ∙ d .words;
-      colours = simp length-set (d .colours);
-      bytes = simp length-set (d .bytes);
-      phase = d .phase;
-      grey = d .grey;
-      free = λ z. b;
-      root = d .root;
-      count = omega arith;
-      placed = d .placed;
-      parked = d .parked;
-    })
+    advance-kept _
+    (ready-words
+    (ready-colours
+    (ready-bytes (ready-count (ready-free d (h .regs .position) (λ z. b)) (h .regs .count + 1) (omega arith))
+    (clearByte (h .bytes) (h .regs .position)) (simp length-set))
+    (paint (h .regs .position) freed (h .colours)) (simp length-set))
+    (withEight (h .words) (h .regs .position) (freeWords (h .regs .free))) (length-eight _ _ _ _ b (d .words)))
     s
 
 pub whitened-kept : (h : Heap) → Ready h → h .regs .phase ≡ sweeping → Ready (whitened h)
 unfolding whitened
-whitened-kept h d s =
-    advance-kept (withColours (paint (h .regs .position) white (h .colours)) h)
-    (record {
-      some = d .some;
-      most = d .most;
-      pace = d .pace;
-      words = d .words;
-      colours = simp length-set (d .colours);
-      bytes = d .bytes;
-      phase = d .phase;
-      grey = d .grey;
-      free = d .free;
-      root = d .root;
-      count = d .count;
-      placed = d .placed;
-      parked = d .parked;
-    })
-    s
+whitened-kept h d s = advance-kept _ (ready-colours d (paint (h .regs .position) white (h .colours)) (simp length-set)) s
 
 pub unit-kept : (h : Heap) → Ready h → Ready (unit h .heap)
 unfolding unit act passed

@@ -14,6 +14,7 @@ pub mod Seeing
 pub mod Marking
 pub mod Sweeping
 pub mod Running
+pub mod Setting
 pub mod Kept
 pub mod Formats
 pub mod Working

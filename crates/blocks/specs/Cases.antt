@@ -1,11 +1,12 @@
 -- "Checked by hand": the cases of document 01 that are marked P, as one table under one statement.
--- A case is a list of calls on lent buffers of the right lengths, one more call, what is looked at in what that call gives, and what
--- document 01 says stands there.
+-- A case is a list of calls on lent buffers of the right lengths, what is looked at after them (what one more call gives, or how many
+-- units the calls of a cycle answer in all), and what document 01 says stands there.
 --     lent m               registers and buffers as a host lends them for m blocks, all 0
+--     unitsOver cs h       the units that the calls cs answer, one call after another from the heap h, added up
 --     table                the cases
 --     HandChecked          each case shows what document 01 says
 -- Assumes nothing.
-use Prim.Native.Nat.{ℕ, _*_}
+use Prim.Native.Nat.{ℕ, _+_, _-_, _*_}
 use mathlib.Core.Path.{_≡_}
 use mathlib.Core.List.{List, [], _∷_, _++_, map}
 use lib.ListN.{replicate}
@@ -15,7 +16,7 @@ use Rattle.blocks.specs.Block.{wordOf}
 use Rattle.blocks.specs.Colouring.{white, black, freed, colourWord}
 use Rattle.blocks.specs.Heap.{Heap, heap}
 use Rattle.blocks.specs.Answers.{Given}
-use Rattle.blocks.specs.Session.{Call, lastOf}
+use Rattle.blocks.specs.Session.{Call, does, session}
 use Rattle.blocks.specs.Session.Call.{Format, Read, StoreReference, Allocate, Work}
 
 abbrev pub lent : ℕ → Heap
@@ -24,13 +25,26 @@ lent m = heap (freshRegs 0 0) (replicate (8 * m) 0) (replicate m 0) (replicate m
 pub record Case : Type 0 where
   pub blocks : ℕ
   pub calls : List Call
-  pub last : Call
-  pub looked : Given → List ℕ
+  pub looked : Heap → List ℕ
   pub expected : List ℕ
 
 -- on buffers for m blocks, after the calls cs, the call c shows what is expected
 abbrev on : ℕ → List Call → Call → (Given → List ℕ) → List ℕ → Case
-on m cs c look says = record { blocks = m; calls = cs; last = c; looked = look; expected = says }
+on m cs c look says = record { blocks = m; calls = cs; looked = λ h. look (does c h); expected = says }
+
+unfoldable pub unitsOver : List Call → Heap → ℕ
+unitsOver [] h = 0
+unitsOver (c ∷ cs) h = does c h .answer .units + unitsOver cs (does c h .heap)
+
+-- after the calls cs the collector is idle; the calls ds do one whole cycle, which takes n units
+abbrev cycle : ℕ → List Call → List Call → ℕ → Case
+cycle m cs ds n =
+    record {
+      blocks = m;
+      calls = cs;
+      looked = λ h. h .regs .phase ∷ unitsOver ds h ∷ session ds h .regs .phase ∷ (session ds h .regs .cycle - h .regs .cycle) ∷ [];
+      expected = 0 ∷ n ∷ 0 ∷ 1 ∷ [];
+    }
 
 -- what is looked at: refusal, value and units; registers; the colour and the word 0 of a block
 abbrev answer : Given → List ℕ
@@ -73,6 +87,7 @@ table =
     ∷ on 3 (Format 3 1 ∷ Allocate 0 0 ∷ Allocate 2 0 ∷ []) (Work 3)
     (λ g. answer g ++ colourIn g 2 ∷ colourIn g 3 ∷ regs g .phase ∷ [])
     (0 ∷ 0 ∷ 3 ∷ white ∷ white ∷ 0 ∷ [])
+    ∷ cycle 3 (Format 3 1 ∷ []) (Allocate 0 0 ∷ Allocate 2 0 ∷ Work 3 ∷ []) 5
     -- 5. Then store 0 as reference at (2, 0), Work 4: position 3. Block 3 is doomed: Read answers 5.
     ∷ on 3 (toCase4 ++ StoreReference 2 0 0 ∷ []) (Work 4) (λ g. answer g ++ regs g .position ∷ []) (0 ∷ 0 ∷ 4 ∷ 3 ∷ [])
     ∷ on 3 toCase5 (Read 3 0) answer (5 ∷ 0 ∷ 0 ∷ [])
@@ -80,9 +95,10 @@ table =
     ∷ on 3 toCase5 (StoreReference 2 1 3) answer (6 ∷ 0 ∷ 0 ∷ [])
     -- 7. There, Work 1: block 3 is free, its word 0 is 4, free head 3, free count 2. Work 1 more: idle, 6 units in the cycle.
     ∷ on 3 toCase5 (Work 1)
-    (λ g. colourIn g 3 ∷ wordZeroIn g 3 ∷ regs g .free ∷ regs g .count ∷ [])
-    (freed ∷ 4 ∷ 3 ∷ 2 ∷ [])
+    (λ g. answer g ++ colourIn g 3 ∷ wordZeroIn g 3 ∷ regs g .free ∷ regs g .count ∷ [])
+    (0 ∷ 0 ∷ 1 ∷ freed ∷ 4 ∷ 3 ∷ 2 ∷ [])
     ∷ on 3 (toCase5 ++ Work 1 ∷ []) (Work 1) (λ g. answer g ++ regs g .phase ∷ []) (0 ∷ 0 ∷ 1 ∷ 0 ∷ [])
+    ∷ cycle 3 (toCase4 ++ StoreReference 2 0 0 ∷ []) (Work 4 ∷ Work 1 ∷ Work 1 ∷ []) 6
     -- 8. From 4: Work 1, store 0 as reference at (2, 0), Work 1, store reference 3 at (2, 1): 3 has colour 1 and is the grey head.
     ∷ on 3 (toCase4 ++ Work 1 ∷ StoreReference 2 0 0 ∷ Work 1 ∷ []) (StoreReference 2 1 3)
     (λ g. answer g ++ colourIn g 3 ∷ regs g .grey ∷ [])
@@ -95,7 +111,7 @@ table =
     ∷ []
 
 abbrev shown : Case → List ℕ
-shown c = c .looked (lastOf (c .calls) (c .last) (lent (c .blocks)))
+shown c = c .looked (session (c .calls) (lent (c .blocks)))
 
 abbrev pub HandChecked : Type 0
 HandChecked = map shown table ≡ map (λ c. c .expected) table

@@ -12,9 +12,9 @@ use Rattle.blocks.specs.Block.{eightWords}
 use Rattle.blocks.specs.WellFormed.{Names, WellFormed}
 use Rattle.blocks.specs.Session.{Call, does, session}
 use Rattle.promises.specs.Reachable.{isRoot, isNamed, SameWord}
-use Rattle.promises.specs.Sessions.{Resets}
+use Rattle.promises.specs.Plans.{Resets}
 use Rattle.promises.specs.Demand2.{TouchesCall, Untouched}
-use Rattle.promises.proofs.Keeping.{call-formed}
+use Rattle.promises.proofs.Courses.{call-formed}
 use Rattle.promises.proofs.Losing.{word-join, nothing-lost}
 use Rattle.promises.proofs.Chaining.{stays-no-reset, call-root}
 use Rattle.promises.proofs.Rooming.{call-keeps}
@@ -63,7 +63,7 @@ list-join p q =
 
 module _ (s w : ℕ) (bs : List ℕ) where
   -- one call
-  call-same : (h : Heap) → WellFormed h → Listed h w s bs → Hangs h s → (c : Call) → (Resets c h → ⊥) → ((b v : ℕ) → List·Memᴰ b bs → v ≤ 7 → TouchesCall c b v → ⊥)
+  call-same : (h : Heap) → WellFormed h → Listed h w s bs → Hangs h s → (c : Call) → (Resets c h → ⊥) → ((b v : ℕ) → List·Memᴰ b bs → v ≤ 7 → TouchesCall c h b v → ⊥)
       → Hangs (does c h .heap) s → SameList h (does c h .heap) s w bs
   unfolding export
   call-same h f a g c n u g′ =
@@ -84,12 +84,12 @@ module _ (s w : ℕ) (bs : List ℕ) where
       list-join q (lasts cs (does c h .heap) (call-formed h f c) (q .listed) (p .3))
 
 -- a session that leaves the root alone, as one that spares what hangs from it
-root-spares : (cs : List Call) (h : Heap) → WellFormed h → (a : ℕ) (bs : List ℕ) → h .regs .root ≡ a → Untouched cs bs → Spared cs h a bs
+root-spares : (cs : List Call) (h : Heap) → WellFormed h → (a : ℕ) (bs : List ℕ) → h .regs .root ≡ a → Untouched cs h bs → Spared cs h a bs
 root-spares [] h f a bs e u = λ z. isRoot (sym e) z
 root-spares (c ∷ cs) h f a bs e u =
     (λ z. isRoot (sym e) z, stays-no-reset c h (u .0 .0), u .0 .1, root-spares cs (does c h .heap) (call-formed h f c) a bs (call-root h f c (u .0 .0) ∙ e) (u .1))
 
-word-spares : (cs : List Call) (h : Heap) → WellFormed h → (a s : ℕ) (bs : List ℕ) → h .regs .root ≡ a → a ≢ 0 → (n : Names h a s) → Untouched cs bs → Leaves cs a (n .word) → Spared cs h s bs
+word-spares : (cs : List Call) (h : Heap) → WellFormed h → (a s : ℕ) (bs : List ℕ) → h .regs .root ≡ a → a ≢ 0 → (n : Names h a s) → Untouched cs h bs → Leaves cs h a (n .word) → Spared cs h s bs
 word-spares [] h f a s bs e z n u l = λ y. isNamed (isRoot (sym e) z) n y
 word-spares (c ∷ cs) h f a s bs e z n u l =
     let r = stays-no-reset c h (u .0 .0) in

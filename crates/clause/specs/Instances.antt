@@ -3,6 +3,7 @@
 --     buffer, rows         a buffer of 20 words, and what an export of the list makes of it
 --     busy                 a session with garbage in the root's word 7 and units through whole cycles
 --     Lasts                the premises are met by it, blocks are freed and taken again, and the export is the same
+--     refused, refusals, Unmoved     a session of calls that would touch the list or the root and are refused: the list lasts through it too
 --     Touched              a session that stores into a row: the export is complete, with another row
 --     Dropped              a session that lets go of the list: the export says that it is not complete
 -- Assumes nothing.
@@ -14,8 +15,8 @@ use lib.ListN.{replicate}
 use Rattle.blocks.specs.Heap.{Heap}
 use Rattle.blocks.specs.Format.{formatted}
 use Rattle.blocks.specs.WellFormed.{Names, WellFormed}
-use Rattle.blocks.specs.Session.{Call, session, lastOf}
-use Rattle.blocks.specs.Session.Call.{StoreNumber, StoreReference, Allocate, Work}
+use Rattle.blocks.specs.Session.{Call, does, session, lastOf}
+use Rattle.blocks.specs.Session.Call.{Format, StoreNumber, StoreReference, SetRoot, Allocate, Work}
 use Rattle.promises.specs.Demand2.{Untouched}
 use Rattle.exporting.specs.declared.Reason.the-variants.{Refused}
 use Rattle.exporting.specs.Export.{complete, stopped, export}
@@ -43,8 +44,8 @@ pub record Lasts : Type 0 where
   pub listed : Listed night 0 3 (3 ∷ 4 ∷ [])
   pub held : Names night (night .regs .root) 3
   pub rooted : night .regs .root ≢ 0
-  pub untouched : Untouched busy (3 ∷ 4 ∷ [])
-  pub left : Leaves busy (night .regs .root) (held .word)
+  pub untouched : Untouched busy night (3 ∷ 4 ∷ [])
+  pub left : Leaves busy night (night .regs .root) (held .word)
   -- three blocks were free, and the session's fifth allocation is given one
   pub free : night .regs .count ≡ 3
   pub given : lastOf (Allocate 2 7 ∷ Allocate 2 7 ∷ Work 30 ∷ Allocate 2 7 ∷ Allocate 2 7 ∷ Work 30 ∷ []) (Allocate 2 7) night .answer .refusal ≡ 0
@@ -52,6 +53,22 @@ pub record Lasts : Type 0 where
   pub before : export 3 0 night buffer ≡ complete 2 (rows 88)
   pub lasts : SameList night (session busy night) 3 0 (3 ∷ 4 ∷ [])
   pub after : export 3 0 (session busy night) buffer ≡ complete 2 (rows 88)
+
+-- three blocks more, so that none is free; then an allocation held by the first row, which does its unit and is refused; a store into the
+-- first row whose target is no block; a root that is no block; a Format of no blocks; and units through whole cycles
+abbrev pub refused : List Call
+refused = Allocate 2 4 ∷ Allocate 2 5 ∷ Allocate 2 6 ∷ Allocate 3 0 ∷ StoreReference 3 0 9 ∷ SetRoot 9 ∷ Format 0 1 ∷ Work 30 ∷ []
+
+-- the refusal numbers that calls answer, one after another
+unfoldable pub refusals : List Call → Heap → List ℕ
+refusals [] h = []
+refusals (c ∷ cs) h = does c h .answer .refusal ∷ refusals cs (does c h .heap)
+
+pub record Unmoved : Type 0 where
+  pub answers : refusals refused night ≡ 0 ∷ 0 ∷ 0 ∷ 7 ∷ 4 ∷ 4 ∷ 1 ∷ 0 ∷ []
+  pub untouched : Untouched refused night (3 ∷ 4 ∷ [])
+  pub left : Leaves refused night (night .regs .root) 1
+  pub lasts : SameList night (session refused night) 3 0 (3 ∷ 4 ∷ [])
 
 -- 99 stored in the second row
 pub record Touched : Type 0 where

@@ -8,6 +8,7 @@ pub mod Soundness
 pub mod Safety
 pub mod Runs
 pub mod Working
+pub mod Acting
 pub mod Garbage
 pub mod Around
 pub mod Bounds

@@ -25,7 +25,7 @@ use Rattle.promises.specs.Demand3.{allocatedBlocks, CycleShort}
 use Rattle.promises.proofs.Viewing.{wf-shape, wf-sound}
 use Rattle.promises.proofs.Counts.{one, count-sum, free-count}
 use Rattle.promises.proofs.UnitMoves.{unit-begins}
-use Rattle.promises.proofs.DeedMoves.{deed-move, deed-formed}
+use Rattle.promises.proofs.DeedMoves.{deed-run, deed-formed}
 use Rattle.promises.proofs.Courses.{Ran, deeds-run, allowed-left, allowed-right, session-is}
 
 colour-stands : (c : Colour) → stands (tintOf c) ≡ one (allocatedColour c)
@@ -46,7 +46,7 @@ counted h f = omega (arith, allocated-count h, free-count h (wf-shape h f), all-
 
 module _ (h : Heap) (f : WellFormed h) (ys : List Deed) (a : AllAllowed ys (deed aUnit h)) (i : h .regs .phase ≡ idle) (n : NoBegin ys (deed aUnit h)) where
   run-of : Ran (h .regs .blocks) (deed aUnit h) ys
-  run-of = let v = deed-move h (wf-shape h f) (wf-sound h f) aUnit tt in deeds-run (h .regs .blocks) ys (deed aUnit h) (v .blocks) (deed-formed h f aUnit tt) a
+  run-of = let v = deed-run h (wf-shape h f) (wf-sound h f) aUnit tt in deeds-run (h .regs .blocks) ys (deed aUnit h) (v .blocks) (deed-formed h f aUnit tt) a
 
   units-most : unitsIn (aUnit ∷ ys) ≤ allocatedBlocks h + h .regs .blocks + 2
   unfolding deed

@@ -8,8 +8,6 @@ use mathlib.Core.List.{List, _∷_, _++_}
 use Rattle.blocks.specs.Registers.{idle}
 use Rattle.blocks.specs.Heap.{Heap}
 use Rattle.blocks.specs.WellFormed.{Block, WellFormed}
-use Rattle.reach.specs.Sums as sums
-use Rattle.moves.specs.Tints as tints
 use Rattle.moves.specs.Garbage as garbage
 use Rattle.promises.specs.Reachable.{Reachable, IsFree}
 use Rattle.promises.specs.Deeds.{Deed, aUnit, deed, AllAllowed, after}
@@ -18,15 +16,15 @@ use Rattle.promises.specs.Demand2.{GarbageGoes}
 use Rattle.promises.proofs.Viewing.{there, wf-shape, wf-sound}
 use Rattle.promises.proofs.Reaching.{view-reachable, view-free}
 use Rattle.promises.proofs.UnitMoves.{unit-begins}
-use Rattle.promises.proofs.DeedMoves.{deed-move, deed-formed}
-use Rattle.promises.proofs.Courses.{freed-at, deeds-run, allowed-left, allowed-right, session-is}
+use Rattle.promises.proofs.DeedMoves.{freed-at, deed-run, deed-formed}
+use Rattle.promises.proofs.Courses.{deeds-run, allowed-left, allowed-right, session-is}
 
 pub cycle-collects : (h : Heap) → WellFormed h → (ys : List Deed) → AllAllowed ys (deed aUnit h)
     → h .regs .phase ≡ idle → NoBegin ys (deed aUnit h) → after ys (deed aUnit h) .regs .phase ≡ idle → Proper ys (deed aUnit h)
     → (g : ℕ) → Block (h .regs .blocks) g → (IsFree h g → ⊥) → (Reachable h g → ⊥) → FreedBy g (aUnit ∷ ys) h
 unfolding deed
 cycle-collects h f ys a i n z p g l k r =
-    let v = deed-move h (wf-shape h f) (wf-sound h f) aUnit tt in
+    let v = deed-run h (wf-shape h f) (wf-sound h f) aUnit tt in
     let q = deeds-run (h .regs .blocks) ys (deed aUnit h) (v .blocks) (deed-formed h f aUnit tt) a in
     later aUnit
     (q .freed g (there l)

@@ -18,7 +18,6 @@ use Rattle.blocks.proofs.Tests.{by-test, clash}
 use Rattle.meaning.proofs.Frees.{nextFree, free-tests}
 use Rattle.meaning.proofs.Exact.{exact-length}
 use Rattle.reach.specs.Sums.{sum, Within, total, total-down, total-ones}
-use Rattle.reach.specs.Sums as sums
 use Rattle.moves.specs.Tints.{Tint}
 use Rattle.moves.specs.Tints as tints
 use Rattle.moves.specs.Bounds.{lies, unused}

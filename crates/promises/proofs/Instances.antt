@@ -9,8 +9,8 @@
 use Prim.Native.Nat.{ℕ, zero, suc, _+_, _*_, _≤_}
 use mathlib.Core.Path.{_≡_, refl, sym, _∙_, ap, subst}
 use mathlib.Core.Logic.{_≢_, ⊎-elim}
-use mathlib.Core.Bool.{Bool, true, false, _&&_, _||_, not, true≢false}
-use mathlib.Core.List.{List, [], _∷_, _++_, List·Memᴰ, List·Memᴰ·head, List·Memᴰ·tail, List·Memᴰ·not-nil, List·Memᴰ·cases-cons, List·Memᴰ·eq-of-singleton}
+use mathlib.Core.Bool.{Bool, true, _&&_, _||_, not, true≢false}
+use mathlib.Core.List.{List, [], _∷_, _++_, map, List·Memᴰ, List·Memᴰ·head, List·Memᴰ·tail, List·Memᴰ·not-nil, List·Memᴰ·cases-cons, List·Memᴰ·eq-of-singleton}
 use native.Mathlib.Omega.{arith}
 use lib.Dec.{eqb}
 use lib.ListN.{replicate}
@@ -36,13 +36,14 @@ use Rattle.blocks.specs.WellFormed.{Block}
 use Rattle.blocks.proofs.Tests.{both-true, either-true, if-ind, clash}
 use Rattle.meaning.proofs.Words.{names-member}
 use Rattle.promises.specs.Reachable.{Reachable, isRoot, isNamed, IsFree}
-use Rattle.promises.specs.Deeds.{Deed, aUnit, deeds, deed, after}
+use Rattle.promises.specs.Deeds.{Act, acted, Deed, aUnit, anAct, deed, after}
+use Rattle.promises.specs.Plans.{plan, deeds, asks}
 use Rattle.promises.specs.Sessions.{NoReset, sessionDeeds, Proper, NoBegin, FreedBy, now, later}
-use Rattle.promises.specs.Demand3.{cycles, Good, Premises}
+use Rattle.promises.specs.Demand3.{cycles, Good, Premises, Asking}
 use Rattle.promises.specs.Instances.{fresh, leaving, before, left, plain, Freed, Survives, HandArithmetic, within, allWithin, namesWithin, closes, pair, goesOn, works, churn, byTurns, rooted, long, Roomy}
 use Rattle.promises.proofs.FreshHeap.{fresh-formed}
 use Rattle.promises.proofs.Collecting.{garbage-goes}
-use Rattle.promises.proofs.Rooming.{room-enough, margin}
+use Rattle.promises.proofs.Rooming.{room-for, margin-for}
 
 within-has : (x : ℕ) (l : List ℕ) → within x l ≡ true → x ≢ 0 → List·Memᴰ x l
 unfolding within
@@ -84,13 +85,24 @@ units-proper : (n : ℕ) (ds : List Deed) → ((k : Heap) → Proper ds k) → (
 units-proper zero ds p h = p h
 units-proper (suc n) ds p h = (λ z. absurd (z refl), units-proper n ds p (deed aUnit h))
 
+-- acts that name no target
+record Nameless (ys : List Act) : Type 0 where
+  proper : (k : Heap) → Proper (map anAct ys) k
+
+no-acts : Nameless []
+no-acts = record { proper = λ k. tt }
+
+allocate-acts : (b w : ℕ) (h : Heap) → Nameless (plan (Allocate b w) h .acts)
+unfolding plan
+allocate-acts b w h =
+    if-ind Nameless (eqb (entry h ▷ holderPlace (h .regs .blocks) b w) 0)
+    (λ t. if-ind Nameless (eqb (takeRefusal b (run (unitsDue (h .regs)) 0 h .heap)) 0) (λ s. record { proper = λ k. (λ z. absurd (z refl), tt) }) (λ s. no-acts))
+    (λ t. no-acts)
+
 allocate-proper : (b w : ℕ) (h : Heap) → Proper (deeds (Allocate b w) h) h
-unfolding deeds
 allocate-proper b w h =
-    if-ind (λ (ds : List Deed). Proper ds h) (eqb (entry h ▷ holderPlace (h .regs .blocks) b w) 0)
-    (λ t. units-proper (unitsDue (h .regs)) _ (λ k. if-ind (λ (ds : List Deed). Proper ds k) (eqb (takeRefusal b (run (unitsDue (h .regs)) 0 h .heap)) 0)
-    (λ s. (λ z. absurd (z refl), tt)) (λ s. tt)) h)
-    (λ t. tt)
+    let p = plan (Allocate b w) h in
+    units-proper (p .units) (map anAct (p .acts)) (allocate-acts b w h .proper) h
 
 goes-on : (g : Given) (rest : Heap → Bool) → goesOn g rest ≡ true → (closes (g .heap) (pair (g .heap)) ≡ true) × (rest (g .heap) ≡ true)
 unfolding goesOn
@@ -107,8 +119,14 @@ works-good (b ∷ bs) h e =
     ((allocate-proper b 0 h, record { list = pair (g .heap); short = omega arith; has = λ x r. closes-has (g .heap) (pair (g .heap)) (t .0) r }), works-good bs (g .heap) (t .1))
 
 churn-unreset : (bs : List ℕ) (h : Heap) → NoReset (churn bs) h
+unfolding plan
 churn-unreset [] h = tt
-churn-unreset (b ∷ bs) h = (λ z. z, churn-unreset bs (does (Allocate b 0) h .heap))
+churn-unreset (b ∷ bs) h = (λ z. clash z refl, churn-unreset bs (does (Allocate b 0) h .heap))
+
+churn-asks : (bs : List ℕ) (h : Heap) → Asking 1 (churn bs) h
+unfolding plan
+churn-asks [] h = tt
+churn-asks (b ∷ bs) h = (omega arith, churn-asks bs (does (Allocate b 0) h .heap))
 
 -- after no deed of ds is g free
 unfoldable neverFree : ℕ → List Deed → Heap → Bool
@@ -139,7 +157,7 @@ three : Block 3 3
 three = record { low = omega arith; high = omega arith }
 
 pub freed : Freed
-unfolding _▷_ isBlock eightWords withEight bit withBit withoutBit referencesFrom colour greyWhite greyAll isAllocated headLegal doomedWhite standing standingOf holderRefusal targetRefusal numbersFit lengthsFit fits isBlockOrNone positionLegal legal entry wordRefusal holderPlace targetPlace unless step metBlock metWord begun marked allSound turned advance reclaimed whitened passed act unit run freeList formatted barrier putReference storeRefusal storeReference unitsDue firstFits listRefusal newColour taken held takeRefusal allocated allocate countRefusal work does session lastOf sessionDeeds deeds deed after within allWithin namesWithin closes
+unfolding _▷_ isBlock eightWords withEight bit withBit withoutBit referencesFrom colour greyWhite greyAll isAllocated headLegal doomedWhite standing standingOf holderRefusal targetRefusal numbersFit lengthsFit fits isBlockOrNone positionLegal legal entry wordRefusal holderPlace targetPlace unless step metBlock metWord begun marked allSound turned advance reclaimed whitened passed act unit run freeList formatted barrier putReference storeRefusal storeReference unitsDue firstFits listRefusal newColour taken held takeRefusal allocated allocate countRefusal work does session lastOf sessionDeeds plan acted deed after within allWithin namesWithin closes
 freed =
     let begun : NoBegin plain (deed aUnit left) = (marks, (marks, (sweeps, (sweeps, (sweeps, tt))))) in
     let proper : Proper plain (deed aUnit left) =
@@ -155,12 +173,12 @@ freed =
       allocated = allocated;
       unreached = unreached;
       freed = garbage-goes fresh (fresh-formed 3 1 (omega arith) (omega arith) (omega arith)) (leaving ++ Work 6 ∷ [])
-          (λ z. z, (λ z. z, (λ z. z, (λ z. z, (λ z. z, tt)))))
+          (λ z. clash z refl, (λ z. clash z refl, (λ z. clash z refl, (λ z. clash z refl, (λ z. clash z refl, tt)))))
           before plain [] refl refl begun refl proper 3 three allocated unreached;
     }
 
 pub survives : Survives
-unfolding _▷_ isBlock eightWords withEight bit withBit withoutBit referencesFrom colour greyWhite greyAll isAllocated headLegal doomedWhite standing standingOf holderRefusal targetRefusal numbersFit lengthsFit fits isBlockOrNone positionLegal legal entry wordRefusal holderPlace targetPlace unless step metBlock metWord begun marked allSound turned advance reclaimed whitened passed act unit run freeList formatted barrier putReference storeRefusal storeReference unitsDue firstFits listRefusal newColour taken held takeRefusal allocated allocate countRefusal work does session lastOf sessionDeeds deeds deed after within allWithin namesWithin closes neverFree
+unfolding _▷_ isBlock eightWords withEight bit withBit withoutBit referencesFrom colour greyWhite greyAll isAllocated headLegal doomedWhite standing standingOf holderRefusal targetRefusal numbersFit lengthsFit fits isBlockOrNone positionLegal legal entry wordRefusal holderPlace targetPlace unless step metBlock metWord begun marked allSound turned advance reclaimed whitened passed act unit run freeList formatted barrier putReference storeRefusal storeReference unitsDue firstFits listRefusal newColour taken held takeRefusal allocated allocate countRefusal work does session lastOf sessionDeeds plan acted deed after within allWithin namesWithin closes neverFree
 survives =
     record {
       deeds = refl;
@@ -201,13 +219,21 @@ nine = refl
 enough : 2 + 2 * cycles 20 5 ≤ 20
 enough = rw nine (omega arith)
 
+one-at-a-time : Asking 1 long (formatted 20 5)
+one-at-a-time = churn-asks (byTurns rooted) (formatted 20 5)
+
+one-more : (b w : ℕ) (h : Heap) → asks (Allocate b w) h ≤ 1
+unfolding plan
+one-more b w h = omega arith
+
 pub roomy : Roomy
 roomy =
     record {
       many = refl;
       spans = nine;
       premises = long-premises;
+      asking = one-at-a-time;
       fits = enough;
-      room = room-enough 20 5 2 long long-premises enough;
-      margin = margin 20 5 2 long long-premises;
+      room = λ b w. room-for .further 20 5 2 1 long long-premises one-at-a-time (omega (arith, enough)) (Allocate b w) (one-more b w (session long (formatted 20 5)));
+      margin = omega (arith, margin-for 20 5 2 1 long long-premises one-at-a-time);
     }

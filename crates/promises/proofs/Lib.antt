@@ -10,11 +10,13 @@ pub mod Counts
 pub mod UnitMoves
 pub mod RunMoves
 pub mod FreshHeap
-pub mod Calls
 pub mod Reaching
 pub mod StoringMoves
 pub mod TakingMoves
 pub mod DeedMoves
+pub mod Refusing
+pub mod Planning
+pub mod Calls
 pub mod Courses
 pub mod Keeping
 pub mod Losing

@@ -1,176 +1,111 @@
--- Nothing reachable is lost: no call frees a block reachable before it, and only the word that it names changes.
---     Tame ds                  deeds of which all but the last are units: a call's are
+-- Nothing reachable is lost: no call frees a block reachable before it, and only a word that it writes changes.
 --     reachable-live           on a well-formed heap a reachable block is live
 --     unit-reachable, unit-reached     a unit leaves what is reachable reachable, and makes nothing else so
---     tame-kept, tame-same     such deeds free no block reachable before them, and leave its untouched words
+--     acts-stay, acts-same     acts free no block that is live before them, and leave its unwritten words
+--     course-kept, course-same     so do units and then acts, of a block reachable before them
 --     nothing-lost             the promise
 -- Assumes nothing.
 use Prim.Native.Nat.{ℕ, zero, suc, _≤_}
 use mathlib.Core.Path.{_≡_, refl, sym, _∙_, subst}
-use mathlib.Core.List.{List, [], _∷_, _++_}
-use lib.Dec.{eqb}
+use mathlib.Core.Logic.{inl, inr}
+use mathlib.Core.List.{List, [], _∷_, _++_, map}
 use lib.ListN.{take, replicate}
-use Rattle.blocks.specs.Tests.{_▷_}
 use Rattle.blocks.specs.Heap.{Heap}
-use Rattle.blocks.specs.Entry.{entry, holderPlace}
-use Rattle.blocks.specs.Units.{run}
-use Rattle.blocks.specs.Read.{readRefusal}
-use Rattle.blocks.specs.Store.{storeRefusal, rootRefusal}
-use Rattle.blocks.specs.Allocate.{unitsDue, takeRefusal}
-use Rattle.blocks.specs.Work.{countRefusal}
-use Rattle.blocks.specs.WellFormed.{Live, WellFormed}
+use Rattle.blocks.specs.OneUnit.{unit}
+use Rattle.blocks.specs.WellFormed.{WellFormed}
+use Rattle.blocks.specs.WellFormed as formed
 use Rattle.blocks.specs.Session.{Call, session}
-use Rattle.blocks.specs.Session.Call.{Format, Read, Look, StoreNumber, StoreReference, SetRoot, Allocate, Work, Audit}
-use Rattle.blocks.proofs.Tests.{if-ind}
-use Rattle.moves.specs.Heaps.{reached-live}
-use Rattle.moves.specs.Safety.{reached-kept, reached-cells, unit-over, unit-back}
+use Rattle.moves.specs.Heaps.{Live, reached-live}
+use Rattle.moves.specs.Safety.{unit-cells, unit-over, unit-back}
+use Rattle.moves.specs.Acting.{acts-live, acts-cells}
+use Rattle.promises.specs.View.{view}
 use Rattle.promises.specs.Reachable.{Reachable, IsFree, SameWord}
-use Rattle.promises.specs.Deeds.{Deed, aUnit, aNumber, aReference, aRoot, aTake, deed, Allowed, AllAllowed, Touches, deeds, after}
-use Rattle.promises.specs.Sessions.{Resets}
-use Rattle.promises.specs.Demand2.{TouchesCall, Safe, NothingLost}
+use Rattle.promises.specs.Deeds.{Act, Written, aUnit, anAct, deed, AllAllowed, after}
+use Rattle.promises.specs.Plans.{plan, Resets}
+use Rattle.promises.specs.Demand2.{Safe, NothingLost}
 use Rattle.promises.proofs.Viewing.{wf-shape, wf-sound, view-live}
 use Rattle.promises.proofs.Reaching.{reachable-view, view-reachable, free-view, same-word}
-use Rattle.promises.proofs.DeedMoves.{DeedMove, deed-move, deed-formed}
-use Rattle.promises.proofs.Calls.{deeds-allowed}
-use Rattle.promises.proofs.Courses.{call-is}
+use Rattle.promises.proofs.UnitMoves.{unit-goes}
+use Rattle.promises.proofs.DeedMoves.{ActRun, act-run, deed-formed}
+use Rattle.promises.proofs.Calls.{known}
 use Rattle.promises.proofs.Keeping.{session-formed}
 
-abbrev pub Tame : List Deed → Type 0
-Tame [] = Unit {0}
-Tame (aUnit ∷ ds) = Tame ds
-Tame (aNumber b w v ∷ ds) = ds ≡ []
-Tame (aReference b w t ∷ ds) = ds ≡ []
-Tame (aRoot t ∷ ds) = ds ≡ []
-Tame (aTake b w ∷ ds) = ds ≡ []
-
--- none of the deeds writes word w of b
-abbrev pub Spares : List Deed → ℕ → ℕ → Type 0
-Spares [] b w = Unit {0}
-Spares (d ∷ ds) b w = (Touches d b w → ⊥) × Spares ds b w
-
-pub reachable-live : (h : Heap) → WellFormed h → (b : ℕ) → Reachable h b → Live h b
+pub reachable-live : (h : Heap) → WellFormed h → (b : ℕ) → Reachable h b → formed.Live h b
 reachable-live h f b r = view-live h (reached-live (wf-sound h f) (reachable-view r))
 
-pub reachable-kept : (h : Heap) → WellFormed h → (b : ℕ) → Reachable h b → IsFree h b → ⊥
-reachable-kept h f b r z = reached-live (wf-sound h f) (reachable-view r) .allocated (free-view z)
+module _ (h : Heap) (f : WellFormed h) (b : ℕ) where
+  pub unit-reachable : Reachable h b → Reachable (deed aUnit h) b
+  unfolding deed
+  unit-reachable r = let g = unit-goes h (wf-shape h f) (wf-sound h f) in view-reachable (unit-over (wf-sound h f) (g .move) (g .unit) (reachable-view r))
 
-module _ (h : Heap) (f : WellFormed h) (d : Deed) (a : Allowed d h) where
-  moved : DeedMove (h .regs .blocks) h d
-  moved = deed-move h (wf-shape h f) (wf-sound h f) d a
+  pub unit-reached : Reachable (deed aUnit h) b → Reachable h b
+  unfolding deed
+  unit-reached r = let g = unit-goes h (wf-shape h f) (wf-sound h f) in view-reachable (unit-back (wf-sound h f) (g .move) (g .unit) (reachable-view r))
 
-  deed-kept : (b : ℕ) → Reachable h b → IsFree (deed d h) b → ⊥
-  deed-kept b r z = reached-kept (wf-sound h f) (moved .move) (reachable-view r) (free-view z)
-
-  deed-same : (b w : ℕ) → Reachable h b → w ≤ 7 → (Touches d b w → ⊥) → SameWord h (deed d h) b w
-  deed-same b w r l n = same-word l (reached-cells (wf-sound h f) (moved .move) (reachable-view r) w (λ x. n (moved .writes b w x)))
-
-pub unit-reachable : (h : Heap) → WellFormed h → (b : ℕ) → Reachable h b → Reachable (deed aUnit h) b
-unit-reachable h f b r = let v = moved h f aUnit tt in view-reachable (unit-over (wf-sound h f) (v .move) (v .cost) (reachable-view r))
-
-pub unit-reached : (h : Heap) → WellFormed h → (b : ℕ) → Reachable (deed aUnit h) b → Reachable h b
-unit-reached h f b r = let v = moved h f aUnit tt in view-reachable (unit-back (wf-sound h f) (v .move) (v .cost) (reachable-view r))
+  -- a unit leaves its words
+  unit-same : (w : ℕ) → Reachable h b → w ≤ 7 → SameWord h (deed aUnit h) b w
+  unfolding deed
+  unit-same w r l =
+      let g = unit-goes h (wf-shape h f) (wf-sound h f) in
+      let s = unit-cells (g .move) (g .unit) (reached-live (wf-sound h f) (reachable-view r)) in
+      same-word l (record { word = s .words w; bit = s .bits w })
 
 pub word-join : {h k j : Heap} {b w : ℕ} → SameWord h k b w → SameWord k j b w → SameWord h j b w
 word-join p q = record { word = q .word ∙ p .word; bit = q .bit ∙ p .bit }
 
-word-refl : {h : Heap} {b w : ℕ} → SameWord h h b w
-word-refl = record { word = refl; bit = refl }
+-- acts, one after another, on a block that is live
+module _ (b : ℕ) where
+  -- the first of them
+  ran : (m : ℕ) (a : Act) (h : Heap) → h .regs .blocks ≡ m → WellFormed h → AllAllowed (anAct a ∷ []) h → ActRun m h a
+  ran m a h e f x = subst (λ (n : ℕ). ActRun n h a) e (act-run h (wf-shape h f) a (x .0))
 
--- a last deed, and nothing after it
-last-kept : (h : Heap) → WellFormed h → (d : Deed) → Allowed d h → (ds : List Deed) → ds ≡ [] → (b : ℕ) → Reachable h b → (j : ℕ) → IsFree (after (take j ds) (deed d h)) b → ⊥
-unfolding after
-last-kept h f d a ds e b r j z = deed-kept h f d a b r (subst (λ (es : List Deed). IsFree (after es (deed d h)) b) (none j) (subst (λ (es : List Deed). IsFree (after (take j es) (deed d h)) b) e z))
-  where
-    none : (j : ℕ) → _≡_ {A = List Deed} (take j []) []
-    none zero = refl
-    none (suc j) = refl
+  pub acts-stay : (m : ℕ) (ys : List Act) (h : Heap) → h .regs .blocks ≡ m → WellFormed h → AllAllowed (map anAct ys) h
+      → Live m (view h) b → (j : ℕ) → IsFree (after (take j (map anAct ys)) h) b → ⊥
+  unfolding after deed
+  acts-stay m [] h e f x l zero z = l .allocated (free-view z)
+  acts-stay m [] h e f x l (suc j) z = l .allocated (free-view z)
+  acts-stay m (a ∷ ys) h e f x l zero z = l .allocated (free-view z)
+  acts-stay m (a ∷ ys) h e f x l (suc j) z =
+      let v = ran m a h e f (x .0, tt) in
+      acts-stay m ys (deed (anAct a) h) (v .blocks) (deed-formed h f (anAct a) (x .0)) (x .1) (acts-live (v .run) (v .still) l) j z
 
-last-same : (h : Heap) → WellFormed h → (d : Deed) → Allowed d h → (ds : List Deed) → ds ≡ [] → (b w : ℕ) → Reachable h b → w ≤ 7 → (Touches d b w → ⊥) → SameWord h (after ds (deed d h)) b w
-unfolding after
-last-same h f d a ds e b w r l n = subst (λ (es : List Deed). SameWord h (after es (deed d h)) b w) (sym e) (deed-same h f d a b w r l n)
+  pub acts-same : (m : ℕ) (ys : List Act) (h : Heap) → h .regs .blocks ≡ m → WellFormed h → AllAllowed (map anAct ys) h
+      → Live m (view h) b → (w : ℕ) → w ≤ 7 → (Written ys b w → ⊥) → SameWord h (after (map anAct ys) h) b w
+  unfolding after deed
+  acts-same m [] h e f x l w i n = record { word = refl; bit = refl }
+  acts-same m (a ∷ ys) h e f x l w i n =
+      let v = ran m a h e f (x .0, tt) in
+      word-join
+      (same-word i (acts-cells (v .run) (v .still) l w (λ y. n (inl (v .writes b w l y)))))
+      (acts-same m ys (deed (anAct a) h) (v .blocks) (deed-formed h f (anAct a) (x .0)) (x .1) (acts-live (v .run) (v .still) l) w i (λ y. n (inr y)))
 
-pub tame-kept : (ds : List Deed) (h : Heap) → WellFormed h → AllAllowed ds h → Tame ds → (b : ℕ) → Reachable h b → (j : ℕ) → IsFree (after (take j ds) h) b → ⊥
-unfolding after
-tame-kept [] h f a t b r zero z = reachable-kept h f b r z
-tame-kept [] h f a t b r (suc j) z = reachable-kept h f b r z
-tame-kept (aUnit ∷ ds) h f a t b r zero z = reachable-kept h f b r z
-tame-kept (aUnit ∷ ds) h f a t b r (suc j) z = tame-kept ds (deed aUnit h) (deed-formed h f aUnit (a .0)) (a .1) t b (unit-reachable h f b r) j z
-tame-kept (aNumber c u v ∷ ds) h f a t b r zero z = reachable-kept h f b r z
-tame-kept (aNumber c u v ∷ ds) h f a t b r (suc j) z = last-kept h f (aNumber c u v) (a .0) ds t b r j z
-tame-kept (aReference c u x ∷ ds) h f a t b r zero z = reachable-kept h f b r z
-tame-kept (aReference c u x ∷ ds) h f a t b r (suc j) z = last-kept h f (aReference c u x) (a .0) ds t b r j z
-tame-kept (aRoot x ∷ ds) h f a t b r zero z = reachable-kept h f b r z
-tame-kept (aRoot x ∷ ds) h f a t b r (suc j) z = last-kept h f (aRoot x) (a .0) ds t b r j z
-tame-kept (aTake c u ∷ ds) h f a t b r zero z = reachable-kept h f b r z
-tame-kept (aTake c u ∷ ds) h f a t b r (suc j) z = last-kept h f (aTake c u) (a .0) ds t b r j z
+  -- units, and then acts
+  pub course-kept : (n : ℕ) (ys : List Act) (h : Heap) → WellFormed h → AllAllowed (map anAct ys) (after (replicate n aUnit) h)
+      → Reachable h b → (j : ℕ) → IsFree (after (take j (replicate n aUnit ++ map anAct ys)) h) b → ⊥
+  unfolding after
+  course-kept zero ys h f x r j z = acts-stay (h .regs .blocks) ys h refl f x (reached-live (wf-sound h f) (reachable-view r)) j z
+  course-kept (suc n) ys h f x r zero z = reached-live (wf-sound h f) (reachable-view r) .allocated (free-view z)
+  course-kept (suc n) ys h f x r (suc j) z = course-kept n ys (deed aUnit h) (deed-formed h f aUnit tt) x (unit-reachable h f b r) j z
 
-pub tame-same : (ds : List Deed) (h : Heap) → WellFormed h → AllAllowed ds h → Tame ds → (b w : ℕ) → Reachable h b → w ≤ 7 → Spares ds b w → SameWord h (after ds h) b w
-unfolding after
-tame-same [] h f a t b w r l n = word-refl
-tame-same (aUnit ∷ ds) h f a t b w r l n =
-    word-join (deed-same h f aUnit (a .0) b w r l (n .0)) (tame-same ds (deed aUnit h) (deed-formed h f aUnit (a .0)) (a .1) t b w (unit-reachable h f b r) l (n .1))
-tame-same (aNumber c u v ∷ ds) h f a t b w r l n = last-same h f (aNumber c u v) (a .0) ds t b w r l (n .0)
-tame-same (aReference c u x ∷ ds) h f a t b w r l n = last-same h f (aReference c u x) (a .0) ds t b w r l (n .0)
-tame-same (aRoot x ∷ ds) h f a t b w r l n = last-same h f (aRoot x) (a .0) ds t b w r l (n .0)
-tame-same (aTake c u ∷ ds) h f a t b w r l n = last-same h f (aTake c u) (a .0) ds t b w r l (n .0)
-
--- a call's deeds are tame, and spare every word that the call doesn't name
-units-tame : (n : ℕ) (ds : List Deed) → Tame ds → Tame (replicate n aUnit ++ ds)
-units-tame zero ds t = t
-units-tame (suc n) ds t = units-tame n ds t
-
-units-spare : (n : ℕ) (ds : List Deed) (b w : ℕ) → Spares ds b w → Spares (replicate n aUnit ++ ds) b w
-units-spare zero ds b w s = s
-units-spare (suc n) ds b w s = (λ z. z, units-spare n ds b w s)
-
-units-only : (n : ℕ) → Tame (replicate n aUnit)
-units-only zero = tt
-units-only (suc n) = units-only n
-
-units-none : (n b w : ℕ) → Spares (replicate n aUnit) b w
-units-none zero b w = tt
-units-none (suc n) b w = (λ z. z, units-none n b w)
-
-pub deeds-tame : (c : Call) (h : Heap) → Tame (deeds c h)
-unfolding deeds
-deeds-tame (Format m u) h = tt
-deeds-tame (Read b w) h = tt
-deeds-tame (Look b) h = tt
-deeds-tame (StoreNumber b w v) h = if-ind Tame (eqb (readRefusal b w h) 0) (λ t. refl) (λ t. tt)
-deeds-tame (StoreReference b w x) h = if-ind Tame (eqb (storeRefusal b w x h) 0) (λ t. refl) (λ t. tt)
-deeds-tame (SetRoot x) h = if-ind Tame (eqb (rootRefusal x h) 0) (λ t. refl) (λ t. tt)
-deeds-tame (Allocate b w) h =
-    if-ind Tame (eqb (entry h ▷ holderPlace (h .regs .blocks) b w) 0)
-    (λ t. units-tame (unitsDue (h .regs)) _ (if-ind Tame (eqb (takeRefusal b (run (unitsDue (h .regs)) 0 h .heap)) 0) (λ q. refl) (λ q. tt)))
-    (λ t. tt)
-deeds-tame (Work n) h = if-ind Tame (eqb (entry h ▷ countRefusal n) 0) (λ t. units-only n) (λ t. tt)
-deeds-tame Audit h = tt
-
-pub deeds-spare : (c : Call) (h : Heap) (b w : ℕ) → (TouchesCall c b w → ⊥) → Spares (deeds c h) b w
-unfolding deeds
-deeds-spare (Format m u) h b w n = tt
-deeds-spare (Read c v) h b w n = tt
-deeds-spare (Look c) h b w n = tt
-deeds-spare (StoreNumber c v x) h b w n = if-ind (λ (ds : List Deed). Spares ds b w) (eqb (readRefusal c v h) 0) (λ t. (n, tt)) (λ t. tt)
-deeds-spare (StoreReference c v x) h b w n = if-ind (λ (ds : List Deed). Spares ds b w) (eqb (storeRefusal c v x h) 0) (λ t. (n, tt)) (λ t. tt)
-deeds-spare (SetRoot x) h b w n = if-ind (λ (ds : List Deed). Spares ds b w) (eqb (rootRefusal x h) 0) (λ t. (λ z. z, tt)) (λ t. tt)
-deeds-spare (Allocate c v) h b w n =
-    if-ind (λ (ds : List Deed). Spares ds b w) (eqb (entry h ▷ holderPlace (h .regs .blocks) c v) 0)
-    (λ t. units-spare (unitsDue (h .regs)) _ b w (if-ind (λ (ds : List Deed). Spares ds b w) (eqb (takeRefusal c (run (unitsDue (h .regs)) 0 h .heap)) 0) (λ q. (n, tt)) (λ q. tt)))
-    (λ t. tt)
-deeds-spare (Work k) h b w n = if-ind (λ (ds : List Deed). Spares ds b w) (eqb (entry h ▷ countRefusal k) 0) (λ t. units-none k b w) (λ t. tt)
-deeds-spare Audit h b w n = tt
+  pub course-same : (n : ℕ) (ys : List Act) (h : Heap) → WellFormed h → AllAllowed (map anAct ys) (after (replicate n aUnit) h)
+      → Reachable h b → (w : ℕ) → w ≤ 7 → (Written ys b w → ⊥) → SameWord h (after (replicate n aUnit ++ map anAct ys) h) b w
+  unfolding after
+  course-same zero ys h f x r w i y = acts-same (h .regs .blocks) ys h refl f x (reached-live (wf-sound h f) (reachable-view r)) w i y
+  course-same (suc n) ys h f x r w i y =
+      word-join (unit-same h f b w r i) (course-same n ys (deed aUnit h) (deed-formed h f aUnit tt) x (unit-reachable h f b r) w i y)
 
 pub call-safe : (h : Heap) → WellFormed h → (c : Call) → (Resets c h → ⊥) → Safe c h
 call-safe h f c n =
-    let e = call-is h f c n in
-    let a = deeds-allowed h f c in
-    let t = deeds-tame c h in
+    let p = plan c h in
+    let q = known c h f in
     record {
       live = reachable-live h f;
-      kept = λ b r j. tame-kept (deeds c h) h f a t b r j;
-      whole = e;
-      same = λ b w r l x. subst (λ (k : Heap). SameWord h k b w) (sym e) (tame-same (deeds c h) h f a t b w r l (deeds-spare c h b w x));
+      kept = λ b r j. course-kept b (p .units) (p .acts) h f (q .allowed) r j;
+      whole = q .whole n;
+      same = λ b w r l x.
+          subst (λ (k : Heap). SameWord h k b w) (sym (q .whole n))
+          (course-same b (p .units) (p .acts) h f (q .allowed) r w l
+          (λ y. x (inr (λ z. reached-live (wf-sound h f) (reachable-view r) .allocated (free-view z), y))));
     }
 
 pub nothing-lost : NothingLost

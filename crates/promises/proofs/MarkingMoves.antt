@@ -24,11 +24,9 @@ use Rattle.blocks.proofs.Colours.{not-a-block, was-white, head-block}
 use Rattle.blocks.proofs.Steps.{never}
 use Rattle.blocks.proofs.Kept.{Kept, head-one, head-elsewhere, next-legal, begun-kept, marked-kept, turned-kept}
 use Rattle.meaning.proofs.Words.{names-member, member-names}
-use Rattle.reach.specs.Sums as sums
 use Rattle.moves.specs.Tints.{Turned, stays-free, was-free, stays-black}
 use Rattle.moves.specs.Tints as tints
 use Rattle.moves.specs.Moves.{Begin, Mark, Turn}
-use Rattle.moves.specs.Moves as moves
 use Rattle.promises.specs.View.{tintOf, view, Shape}
 use Rattle.promises.proofs.Viewing.{here, there, names-ref, ref-names, tinted}
 use Rattle.promises.proofs.Greys.{TintIn, Greying, turned-as, greying-white, greying-all, black-here, black-there, black-list}

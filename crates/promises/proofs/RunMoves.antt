@@ -1,56 +1,70 @@
 -- On a well-formed heap units in a row are a run of moves, none meets damage, and all are counted.
---     Works h n e              n units from h that ended as e: a run of n unit moves, and the heap's shape is right afterwards
---     run-works                units in a row do that
+--     unit-formed              a unit leaves a well-formed heap well-formed
+--     run-is                   n units in a row are n deeds, and none of them meets damage
+--     Worked m h n             n units from h as a run of n unit moves
+--     units-worked             units in a row are that
 -- Assumes nothing.
 use Prim.Native.Nat.{ℕ, zero, suc, _+_}
 use mathlib.Core.Path.{_≡_, refl, sym, _∙_, ap, subst}
 use native.Mathlib.Omega.{arith}
+use lib.ListN.{replicate}
 use Rattle.blocks.specs.Heap.{Heap}
 use Rattle.blocks.specs.OneUnit.{unit}
-use Rattle.blocks.specs.Units.{RunEnd, stopped, run}
+use Rattle.blocks.specs.Units.{stopped, run}
+use Rattle.blocks.specs.WellFormed.{WellFormed}
 use Rattle.blocks.proofs.Tests.{if-true}
 use Rattle.moves.specs.Heaps.{Sound}
+use Rattle.moves.specs.Moves.{Move}
+use Rattle.moves.specs.Kinds.{cost}
 use Rattle.moves.specs.Soundness.{move-sound}
 use Rattle.moves.specs.Runs.{Run, rest, step, units, OnlyUnits}
-use Rattle.promises.specs.View.{view, Shape}
+use Rattle.promises.specs.View.{view}
+use Rattle.promises.specs.Deeds.{aUnit, deed, after}
+use Rattle.promises.proofs.Viewing.{wf-shape, wf-sound, shape-wf}
 use Rattle.promises.proofs.UnitMoves.{Goes, unit-goes}
 
-pub record Works (h : Heap) (n i : ℕ) (e : RunEnd) : Type 0 where
-  pub refusal : e .refusal ≡ 0
-  pub counted : e .units ≡ i + n
-  pub blocks : e .heap .regs .blocks ≡ h .regs .blocks
-  pub pace : e .heap .regs .pace ≡ h .regs .pace
-  pub run : Run (h .regs .blocks) (view h) (view (e .heap))
+goes : (h : Heap) → WellFormed h → Goes h (unit h)
+goes h f = unit-goes h (wf-shape h f) (wf-sound h f)
+
+pub unit-formed : (h : Heap) → WellFormed h → WellFormed (unit h .heap)
+unit-formed h f =
+    let g = goes h f in
+    shape-wf (unit h .heap) (g .shape) (subst (λ (m : ℕ). Sound m (view (unit h .heap))) (sym (g .blocks)) (move-sound (wf-sound h f) (g .move)))
+
+runs : (n i : ℕ) (h : Heap) → WellFormed h → run n i h ≡ stopped 0 (i + n) (after (replicate n aUnit) h)
+unfolding run after deed
+runs zero i h f = ap (λ (x : ℕ). stopped 0 x h) (omega arith)
+runs (suc n) i h f =
+    let k = unit h .heap in
+    let e : i + 1 + n ≡ i + suc n = omega arith in
+    if-true (run n (i + 1) k) (stopped 8 i k) (goes h f .finished)
+    ∙ runs n (i + 1) k (unit-formed h f)
+    ∙ ap (λ (x : ℕ). stopped 0 x (after (replicate n aUnit) k)) e
+
+pub run-is : (n : ℕ) (h : Heap) → WellFormed h → run n 0 h ≡ stopped 0 n (after (replicate n aUnit) h)
+run-is n h f = let e : 0 + n ≡ n = omega arith in runs n 0 h f ∙ ap (λ (x : ℕ). stopped 0 x (after (replicate n aUnit) h)) e
+
+pub record Worked (m : ℕ) (h : Heap) (n : ℕ) : Type 0 where
+  pub blocks : after (replicate n aUnit) h .regs .blocks ≡ m
+  pub pace : after (replicate n aUnit) h .regs .pace ≡ h .regs .pace
+  pub run : Run m (view h) (view (after (replicate n aUnit) h))
   pub only : OnlyUnits run
   pub long : units run ≡ n
-  pub shape : Shape (e .heap)
-  pub sound : Sound (h .regs .blocks) (view (e .heap))
+  pub formed : WellFormed (after (replicate n aUnit) h)
 
-pub run-works : (n i : ℕ) (h : Heap) → Shape h → Sound (h .regs .blocks) (view h) → Works h n i (run n i h)
-unfolding run
-run-works zero i h p d =
-    record { refusal = refl; counted = omega arith; blocks = refl; pace = refl; run = rest; only = tt; long = refl; shape = p; sound = d }
-run-works (suc n) i h p d =
-    let g = unit-goes h p d in
-    let k = unit h .heap in
-    let s = move-sound d (g .move) in
-    let s′ = subst (λ (m : ℕ). Sound m (view k)) (sym (g .blocks)) s in
-    subst (Works h (suc n) i) (sym (if-true (run n (i + 1) k) (stopped 8 i k) (g .finished))) (on g (run-works n (i + 1) k (g .shape) s′))
-  where
-    on : (g : Goes h (unit h)) → Works (unit h .heap) n (i + 1) (run n (i + 1) (unit h .heap)) → Works h (suc n) i (run n (i + 1) (unit h .heap))
-    on g w =
-        let k = unit h .heap in
-        let e = run n (i + 1) k in
-        let tail : (r : Run (h .regs .blocks) (view k) (view (e .heap))) × (OnlyUnits r × (units r ≡ n)) =
-        subst (λ (m : ℕ). (r : Run m (view k) (view (e .heap))) × (OnlyUnits r × (units r ≡ n))) (g .blocks) (w .run, (w .only, w .long)) in
-        record {
-          refusal = w .refusal;
-          counted = w .counted ∙ omega arith;
-          blocks = w .blocks ∙ g .blocks;
-          pace = w .pace ∙ g .pace;
-          run = step (g .move) (tail .0);
-          only = (g .unit, tail .1 .0);
-          long = ap (λ (x : ℕ). x + units (tail .0)) (g .unit) ∙ ap (λ (x : ℕ). 1 + x) (tail .1 .1) ∙ omega arith;
-          shape = w .shape;
-          sound = subst (λ (m : ℕ). Sound m (view (e .heap))) (g .blocks) (w .sound);
-        }
+pub units-worked : (m n : ℕ) (h : Heap) → h .regs .blocks ≡ m → WellFormed h → Worked m h n
+unfolding after deed
+units-worked m zero h e f = record { blocks = e; pace = refl; run = rest; only = tt; long = refl; formed = f }
+units-worked m (suc n) h e f =
+    let g = goes h f in
+    let v : (v : Move m (view h) (view (unit h .heap))) × (cost v ≡ 1) =
+    subst (λ (j : ℕ). (v : Move j (view h) (view (unit h .heap))) × (cost v ≡ 1)) e (g .move, g .unit) in
+    let w = units-worked m n (unit h .heap) (g .blocks ∙ e) (unit-formed h f) in
+    record {
+      blocks = w .blocks;
+      pace = w .pace ∙ g .pace;
+      run = step (v .0) (w .run);
+      only = (v .1, w .only);
+      long = ap (λ (x : ℕ). x + units (w .run)) (v .1) ∙ ap (λ (x : ℕ). 1 + x) (w .long) ∙ omega arith;
+      formed = w .formed;
+    }

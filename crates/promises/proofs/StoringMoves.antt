@@ -37,6 +37,7 @@ use Rattle.blocks.proofs.Tests.{by-test, if-ind}
 use Rattle.blocks.proofs.Bytes.{set-here, set-there, clear-here, clear-there}
 use Rattle.blocks.proofs.Entering.{first-zero, none-or-block}
 use Rattle.blocks.proofs.Refusals.{word-zero, target-zero, holder-live, target-live}
+use Rattle.blocks.proofs.Setting.{ready-words, ready-colours, ready-bytes, ready-grey, ready-root}
 use Rattle.blocks.proofs.Kept.{head-one, head-elsewhere}
 use Rattle.reach.specs.Sums as sums
 use Rattle.moves.specs.Tints.{stayed, stays-free, was-free}
@@ -79,22 +80,7 @@ module _ (h : Heap) (p : Shape h) (b w v byte : ℕ) (l : Block (h .regs .blocks
 
   written-ready : Ready next
   written-ready =
-      let d = p .ready in
-      record {
-        some = d .some;
-        most = d .most;
-        pace = d .pace;
-        words = simp length-set (d .words);
-        colours = d .colours;
-        bytes = simp length-set (d .bytes);
-        phase = d .phase;
-        grey = d .grey;
-        free = d .free;
-        root = d .root;
-        count = d .count;
-        placed = d .placed;
-        parked = d .parked;
-      }
+      ready-bytes (ready-words (p .ready) (set (h .words) (place b w) v) (simp length-set)) (set (h .bytes) (index b) byte) (simp length-set)
 
   module _ (taken : colourOf h b ≢ Free) where
     apart : (c : ℕ) → Coloured h Free c → c ≢ b
@@ -250,22 +236,9 @@ module _ (h : Heap) (p : Shape h) where
     module _ (x : ℕ) (named : x ≢ 0 → Block m x) where
       guarded-ready : Ready (heap (withRoot x (withGrey (barred t h .head) (h .regs))) (h .words) (barred t h .cells) (h .bytes))
       guarded-ready =
-          let d = p .ready in
-          record {
-            some = d .some;
-            most = d .most;
-            pace = d .pace;
-            words = d .words;
-            colours = guarded .greying .kept .same;
-            bytes = d .bytes;
-            phase = d .phase;
-            grey = guarded .legal;
-            free = d .free;
-            root = named;
-            count = d .count;
-            placed = d .placed;
-            parked = d .parked;
-          }
+          let g = guarded in
+          ready-colours (ready-root (ready-grey (p .ready) (barred t h .head) (g .legal)) x named) (barred t h .cells)
+          (g .greying .kept .same ∙ sym (p .ready .colours))
 
       guarded-shape : Shape (heap (withRoot x (withGrey (barred t h .head) (h .regs))) (h .words) (barred t h .cells) (h .bytes))
       guarded-shape =

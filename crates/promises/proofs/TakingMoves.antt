@@ -34,6 +34,7 @@ use Rattle.blocks.proofs.Tests.{by-eq, both, if-ind}
 use Rattle.blocks.proofs.Bytes.{set-here, set-there}
 use Rattle.blocks.proofs.Colours.{is-white, is-black}
 use Rattle.blocks.proofs.Steps.{never}
+use Rattle.blocks.proofs.Setting.{ready-words, ready-colours, ready-count, ready-free, ready-root}
 use Rattle.blocks.proofs.Entering.{first-zero, block-or-none}
 use Rattle.blocks.proofs.Refusals.{holder-live, within-layout, holder-undamaged, target-undamaged}
 use Rattle.blocks.proofs.Allocating.{new-marking, new-ahead, new-behind, new-idle, list-none, list-good, list-zero, take-zero, held-root, held-word}
@@ -201,21 +202,9 @@ module _ (h : Heap) (p : Shape h) where
     popped-ready =
         let d = p .ready in
         let c = d .count in
-        record {
-          some = d .some;
-          most = d .most;
-          pace = d .pace;
-          words = simp length-set (d .words);
-          colours = simp length-set (d .colours);
-          bytes = d .bytes;
-          phase = d .phase;
-          grey = d .grey;
-          free = λ o. next-free n o .block;
-          root = d .root;
-          count = omega arith;
-          placed = d .placed;
-          parked = d .parked;
-        }
+        ready-words
+        (ready-colours (ready-count (ready-free d link (λ o. next-free n o .block)) (h .regs .count - 1) (omega arith)) (paint x hue (h .colours)) (simp length-set))
+        (set (h .words) (place x 0) 0) (simp length-set)
 
     popped-shape : Shape popped
     popped-shape =
@@ -278,24 +267,9 @@ module _ (h : Heap) (p : Shape h) where
       unfolding taken
       root-taken-shape =
           let s = popped-shape some in
-          let d = s .ready in
           rw (rooted e)
           (recoloured (popped some) s (withRoot x (popped some .regs)) (popped some .colours) refl refl refl
-          (record {
-            some = d .some;
-            most = d .most;
-            pace = d .pace;
-            words = d .words;
-            colours = d .colours;
-            bytes = d .bytes;
-            phase = d .phase;
-            grey = d .grey;
-            free = d .free;
-            root = λ o. block some;
-            count = d .count;
-            placed = d .placed;
-            parked = d .parked;
-          })
+          (ready-root (s .ready) x (λ o. block some))
           (s .colours) (λ c l. (λ f. f, λ f. f)) (of-greys (popped some) (s .greys)))
 
     stored : b ≢ 0 → held b w x (taken h) ≡ putReference b w x (taken h)

@@ -1,98 +1,105 @@
--- What a call does, deed by deed: its units one at a time, then the one thing that it was called for.
---     Deed, deed d h       a deed, and the heap after it
---     Allowed d h          the tests that the machine makes of that deed pass on h
---     costs d, names d, takes d h, Touches d b w     the units, the target, the block taken and the word written of a deed
---     deeds c h            the deeds of the call c on the heap h, in order
+-- What calls are made of, deed by deed: units of the collector, and acts of the running program.
+--     Act, acted a h       an act, and the heap after it
+--     Allows a h           the tests that the machine makes of that act pass on h
+--     target a, takes a    the block that an act names, and how many blocks it takes
+--     Writes a b w         the act writes word w of b, a block that was allocated before
+--     SetsRoot a           the act changes the root
+--     Written ys b w, RootSet ys     one of the acts does
+--     Deed, deed d h       a unit or an act, and the heap after it
+--     Allowed d h, costs d, names d, takings d     the same of a deed, and its units
 --     after ds h           the heap after the deeds ds
 --     AllAllowed ds h      each of them is allowed when it is done
---     Formats c            the call is a Format
--- That a call other than Format is exactly its deeds, each of them allowed, is proved: `calls-are-deeds`.
+--     takesIn ds           how many blocks they take
 -- Assumes nothing.
-use Prim.Native.Nat.{ℕ}
+use Prim.Native.Nat.{ℕ, _+_}
 use mathlib.Core.Path.{_≡_}
-use mathlib.Core.List.{List, [], _∷_, _++_}
-use lib.Dec.{eqb}
-use lib.ListN.{replicate}
-use Rattle.blocks.specs.Tests.{if_then_else_, _▷_}
+use mathlib.Core.Logic.{_⊎_}
+use mathlib.Core.List.{List, [], _∷_}
 use Rattle.blocks.specs.Registers.{withRoot}
 use Rattle.blocks.specs.Heap.{Heap, withRegs}
-use Rattle.blocks.specs.Entry.{entry, holderPlace}
+use Rattle.blocks.specs.Entry.{holderPlace}
 use Rattle.blocks.specs.OneUnit.{unit}
-use Rattle.blocks.specs.Units.{run}
 use Rattle.blocks.specs.Read.{readRefusal}
 use Rattle.blocks.specs.Store.{barrier, putNumber, putReference, storeRefusal, rootRefusal}
-use Rattle.blocks.specs.Allocate.{unitsDue, taken, held, takeRefusal}
-use Rattle.blocks.specs.Work.{countRefusal}
-use Rattle.blocks.specs.Session.{Call}
-use Rattle.blocks.specs.Session.Call.{Format, Read, Look, StoreNumber, StoreReference, SetRoot, Allocate, Work, Audit}
+use Rattle.blocks.specs.Allocate.{taken, held, takeRefusal}
+
+pub data Act : Type 0 where
+  aNumber : ℕ → ℕ → ℕ → Act
+  aReference : ℕ → ℕ → ℕ → Act
+  aRoot : ℕ → Act
+  aTake : ℕ → ℕ → Act
+
+unfoldable pub acted : Act → Heap → Heap
+acted (aNumber b w v) h = putNumber b w v h
+acted (aReference b w t) h = putReference b w t (barrier t h)
+acted (aRoot t) h = withRegs (withRoot t (barrier t h .regs)) (barrier t h)
+acted (aTake b w) h = held b w (h .regs .free) (taken h)
+
+abbrev pub Allows : Act → Heap → Type 0
+Allows (aNumber b w v) h = readRefusal b w h ≡ 0
+Allows (aReference b w t) h = storeRefusal b w t h ≡ 0
+Allows (aRoot t) h = rootRefusal t h ≡ 0
+Allows (aTake b w) h = (holderPlace (h .regs .blocks) b w ≡ 0) × (takeRefusal b h ≡ 0)
+
+-- the target that an act names, and 0 where it names none
+abbrev pub target : Act → ℕ
+target (aNumber b w v) = 0
+target (aReference b w t) = t
+target (aRoot t) = t
+target (aTake b w) = 0
+
+abbrev pub takes : Act → ℕ
+takes (aNumber b w v) = 0
+takes (aReference b w t) = 0
+takes (aRoot t) = 0
+takes (aTake b w) = 1
+
+-- "only a store into it, or an allocation held by it, changes its words"
+abbrev pub Writes : Act → ℕ → ℕ → Type 0
+Writes (aNumber c u v) b w = (b ≡ c) × (w ≡ u)
+Writes (aReference c u t) b w = (b ≡ c) × (w ≡ u)
+Writes (aRoot t) b w = ⊥
+Writes (aTake c u) b w = (b ≡ c) × (w ≡ u)
+
+-- Set root, and an allocation held by the root
+abbrev pub SetsRoot : Act → Type 0
+SetsRoot (aNumber b w v) = ⊥
+SetsRoot (aReference b w t) = ⊥
+SetsRoot (aRoot t) = Unit {0}
+SetsRoot (aTake b w) = b ≡ 0
+
+abbrev pub Written : List Act → ℕ → ℕ → Type 0
+Written [] b w = ⊥
+Written (a ∷ ys) b w = Writes a b w ⊎ Written ys b w
+
+abbrev pub RootSet : List Act → Type 0
+RootSet [] = ⊥
+RootSet (a ∷ ys) = SetsRoot a ⊎ RootSet ys
 
 pub data Deed : Type 0 where
   aUnit : Deed
-  aNumber : ℕ → ℕ → ℕ → Deed
-  aReference : ℕ → ℕ → ℕ → Deed
-  aRoot : ℕ → Deed
-  aTake : ℕ → ℕ → Deed
+  anAct : Act → Deed
 
 unfoldable pub deed : Deed → Heap → Heap
 deed aUnit h = unit h .heap
-deed (aNumber b w v) h = putNumber b w v h
-deed (aReference b w t) h = putReference b w t (barrier t h)
-deed (aRoot t) h = withRegs (withRoot t (barrier t h .regs)) (barrier t h)
-deed (aTake b w) h = held b w (h .regs .free) (taken h)
+deed (anAct a) h = acted a h
 
 abbrev pub Allowed : Deed → Heap → Type 0
 Allowed aUnit h = Unit {0}
-Allowed (aNumber b w v) h = readRefusal b w h ≡ 0
-Allowed (aReference b w t) h = storeRefusal b w t h ≡ 0
-Allowed (aRoot t) h = rootRefusal t h ≡ 0
-Allowed (aTake b w) h = (holderPlace (h .regs .blocks) b w ≡ 0) × (takeRefusal b h ≡ 0)
+Allowed (anAct a) h = Allows a h
 
--- a unit is 1 unit of work, and nothing else is any
+-- a unit is 1 unit of work, and no act is any
 abbrev pub costs : Deed → ℕ
 costs aUnit = 1
-costs (aNumber b w v) = 0
-costs (aReference b w t) = 0
-costs (aRoot t) = 0
-costs (aTake b w) = 0
+costs (anAct a) = 0
 
--- the target that a deed names, and 0 where it names none
 abbrev pub names : Deed → ℕ
 names aUnit = 0
-names (aNumber b w v) = 0
-names (aReference b w t) = t
-names (aRoot t) = t
-names (aTake b w) = 0
+names (anAct a) = target a
 
--- the block that a deed takes
-abbrev pub takes : Deed → Heap → List ℕ
-takes aUnit h = []
-takes (aNumber b w v) h = []
-takes (aReference b w t) h = []
-takes (aRoot t) h = []
-takes (aTake b w) h = h .regs .free ∷ []
-
--- word w of b is the one that a deed writes: "only a store into it, or an allocation held by it, changes its words"
-abbrev pub Touches : Deed → ℕ → ℕ → Type 0
-Touches aUnit b w = ⊥
-Touches (aNumber c u v) b w = (b ≡ c) × (w ≡ u)
-Touches (aReference c u t) b w = (b ≡ c) × (w ≡ u)
-Touches (aRoot t) b w = ⊥
-Touches (aTake c u) b w = (b ≡ c) × (w ≡ u)
-
--- the deeds of a call: none where it is refused or changes nothing
-unfoldable pub deeds : Call → Heap → List Deed
-deeds (Format m u) h = []
-deeds (Read b w) h = []
-deeds (Look b) h = []
-deeds (StoreNumber b w v) h = if eqb (readRefusal b w h) 0 then aNumber b w v ∷ [] else []
-deeds (StoreReference b w t) h = if eqb (storeRefusal b w t h) 0 then aReference b w t ∷ [] else []
-deeds (SetRoot t) h = if eqb (rootRefusal t h) 0 then aRoot t ∷ [] else []
-deeds (Allocate b w) h =
-    if eqb (entry h ▷ holderPlace (h .regs .blocks) b w) 0
-    then replicate (unitsDue (h .regs)) aUnit ++ (if eqb (takeRefusal b (run (unitsDue (h .regs)) 0 h .heap)) 0 then aTake b w ∷ [] else [])
-    else []
-deeds (Work n) h = if eqb (entry h ▷ countRefusal n) 0 then replicate n aUnit else []
-deeds Audit h = []
+abbrev pub takings : Deed → ℕ
+takings aUnit = 0
+takings (anAct a) = takes a
 
 unfoldable pub after : List Deed → Heap → Heap
 after [] h = h
@@ -102,13 +109,6 @@ abbrev pub AllAllowed : List Deed → Heap → Type 0
 AllAllowed [] h = Unit {0}
 AllAllowed (d ∷ ds) h = Allowed d h × AllAllowed ds (deed d h)
 
-abbrev pub Formats : Call → Type 0
-Formats (Format m u) = Unit {0}
-Formats (Read b w) = ⊥
-Formats (Look b) = ⊥
-Formats (StoreNumber b w v) = ⊥
-Formats (StoreReference b w t) = ⊥
-Formats (SetRoot t) = ⊥
-Formats (Allocate b w) = ⊥
-Formats (Work n) = ⊥
-Formats Audit = ⊥
+abbrev pub takesIn : List Deed → ℕ
+takesIn [] = 0
+takesIn (d ∷ ds) = takings d + takesIn ds

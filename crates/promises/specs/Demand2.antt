@@ -1,16 +1,17 @@
 -- Demand 2, as statements about document 01's calls.
 --     CallsKeep            a formatted heap is well-formed; every call keeps a well-formed heap so, and none answers 8
---     TouchesCall c b w    the word that a store into b, or an allocation held by b, names
+--     TouchesCall c h b w  the call c on h writes word w of b: a store into b, or an allocation held by b, that isn't refused
 --     Safe c h             what the call c leaves of the blocks reachable before it
 --     NothingLost          every call at every point of every session is Safe
 --     Chain h b bs         from b on, each block names the next of bs
+--     ChangesRoot c h, Untouched cs h bs     the call changes the root; no call of the session touches the root or the blocks bs
 --     ChainsLast           a chain from the root that no call touches stays, block by block and word by word
 --     GarbageGoes          "An allocated block out of reach when a cycle starts has been freed by that cycle's end"
 -- A session starts from any heap that the audit accepts, a fresh one among them (`audit-means`, `fresh`).
 -- Assumes nothing.
 use Prim.Native.Nat.{ℕ, _≤_}
 use mathlib.Core.Path.{_≡_}
-use mathlib.Core.Logic.{_≢_}
+use mathlib.Core.Logic.{_≢_, _⊎_}
 use mathlib.Core.List.{List, [], _∷_, _++_, List·Memᴰ}
 use lib.ListN.{take}
 use Rattle.blocks.specs.Registers.{idle}
@@ -18,10 +19,10 @@ use Rattle.blocks.specs.Heap.{Heap}
 use Rattle.blocks.specs.WellFormed.{Block, Live, Names, WellFormed}
 use Rattle.blocks.specs.Format.{formatted}
 use Rattle.blocks.specs.Session.{Call, does, session}
-use Rattle.blocks.specs.Session.Call.{Format, Read, Look, StoreNumber, StoreReference, SetRoot, Allocate, Work, Audit}
 use Rattle.promises.specs.Reachable.{Reachable, IsFree, SameWord}
-use Rattle.promises.specs.Deeds.{Deed, aUnit, deed, deeds, after}
-use Rattle.promises.specs.Sessions.{Resets, NoReset, sessionDeeds, Proper, NoBegin, FreedBy}
+use Rattle.promises.specs.Deeds.{Written, RootSet, Deed, aUnit, deed, after}
+use Rattle.promises.specs.Plans.{plan, deeds, Resets}
+use Rattle.promises.specs.Sessions.{NoReset, sessionDeeds, Proper, NoBegin, FreedBy}
 
 -- "On a well-formed heap no call answers 8, and every call leaves it well-formed."
 pub record CallsKeep : Type 0 where
@@ -30,17 +31,10 @@ pub record CallsKeep : Type 0 where
   pub sessions : (cs : List Call) (h : Heap) → WellFormed h → WellFormed (session cs h)
   pub undamaged : (c : Call) (h : Heap) → WellFormed h → does c h .answer .refusal ≢ 8
 
--- "only a store into it, or an allocation held by it, changes its words"
-abbrev pub TouchesCall : Call → ℕ → ℕ → Type 0
-TouchesCall (Format m u) b w = Unit {0}
-TouchesCall (Read c u) b w = ⊥
-TouchesCall (Look c) b w = ⊥
-TouchesCall (StoreNumber c u v) b w = (b ≡ c) × (w ≡ u)
-TouchesCall (StoreReference c u t) b w = (b ≡ c) × (w ≡ u)
-TouchesCall (SetRoot t) b w = ⊥
-TouchesCall (Allocate c u) b w = (b ≡ c) × (w ≡ u)
-TouchesCall (Work n) b w = ⊥
-TouchesCall Audit b w = ⊥
+-- "only a store into it, or an allocation held by it, changes its words": a word that an act of the call writes, of a block that was
+-- allocated before. A refused call has no acts; its units touch nothing. A Format that answers 0 touches everything.
+abbrev pub TouchesCall : Call → Heap → ℕ → ℕ → Type 0
+TouchesCall c h b w = Resets c h ⊎ ((IsFree h b → ⊥) × Written (plan c h .acts) b w)
 
 pub record Safe (c : Call) (h : Heap) : Type 0 where
   -- a reachable block is allocated and not doomed
@@ -49,8 +43,8 @@ pub record Safe (c : Call) (h : Heap) : Type 0 where
   pub kept : (b : ℕ) → Reachable h b → (j : ℕ) → IsFree (after (take j (deeds c h)) h) b → ⊥
   -- the deeds lead to the heap that the call leaves
   pub whole : does c h .heap ≡ after (deeds c h) h
-  -- its words and reference bits stay, but for the one that the call names
-  pub same : (b w : ℕ) → Reachable h b → w ≤ 7 → (TouchesCall c b w → ⊥) → SameWord h (does c h .heap) b w
+  -- its words and reference bits stay, but for those that the call writes
+  pub same : (b w : ℕ) → Reachable h b → w ≤ 7 → (TouchesCall c h b w → ⊥) → SameWord h (does c h .heap) b w
 
 pub record NothingLost : Type 0 where
   pub call : (h : Heap) → WellFormed h → (c : Call) → (Resets c h → ⊥) → Safe c h
@@ -61,22 +55,15 @@ pub data Chain (h : Heap) : ℕ → List ℕ → Type 0 where
   last : {b : ℕ} → Chain h b []
   onto : {b c : ℕ} {bs : List ℕ} → Names h b c → c ≢ 0 → Chain h c bs → Chain h b (c ∷ bs)
 
--- a call that changes the root
-abbrev pub ChangesRoot : Call → Type 0
-ChangesRoot (Format m u) = Unit {0}
-ChangesRoot (Read b w) = ⊥
-ChangesRoot (Look b) = ⊥
-ChangesRoot (StoreNumber b w v) = ⊥
-ChangesRoot (StoreReference b w t) = ⊥
-ChangesRoot (SetRoot t) = Unit {0}
-ChangesRoot (Allocate b w) = b ≡ 0
-ChangesRoot (Work n) = ⊥
-ChangesRoot Audit = ⊥
+-- a call that changes the root: Set root, or an allocation held by the root, that isn't refused; a Format that answers 0
+abbrev pub ChangesRoot : Call → Heap → Type 0
+ChangesRoot c h = Resets c h ⊎ RootSet (plan c h .acts)
 
 -- no call of the session touches the root or a word of the blocks bs
-abbrev pub Untouched : List Call → List ℕ → Type 0
-Untouched [] bs = Unit {0}
-Untouched (c ∷ cs) bs = ((ChangesRoot c → ⊥) × ((b w : ℕ) → List·Memᴰ b bs → w ≤ 7 → TouchesCall c b w → ⊥)) × Untouched cs bs
+abbrev pub Untouched : List Call → Heap → List ℕ → Type 0
+Untouched [] h bs = Unit {0}
+Untouched (c ∷ cs) h bs =
+    ((ChangesRoot c h → ⊥) × ((b w : ℕ) → List·Memᴰ b bs → w ≤ 7 → TouchesCall c h b w → ⊥)) × Untouched cs (does c h .heap) bs
 
 pub record ChainLasts (h k : Heap) (a : ℕ) (bs : List ℕ) : Type 0 where
   pub root : k .regs .root ≡ a
@@ -85,7 +72,7 @@ pub record ChainLasts (h k : Heap) (a : ℕ) (bs : List ℕ) : Type 0 where
 
 abbrev pub ChainsLast : Type 0
 ChainsLast =
-    (h : Heap) → WellFormed h → (bs : List ℕ) (cs : List Call) → h .regs .root ≢ 0 → Chain h (h .regs .root) bs → Untouched cs (h .regs .root ∷ bs)
+    (h : Heap) → WellFormed h → (bs : List ℕ) (cs : List Call) → h .regs .root ≢ 0 → Chain h (h .regs .root) bs → Untouched cs h (h .regs .root ∷ bs)
     → ChainLasts h (session cs h) (h .regs .root) bs
 
 -- a cycle: it starts with the unit after the deeds xs, on an idle heap, and ends with the last of the deeds ys, idle again; the block

@@ -4,10 +4,12 @@
 --     cycles m u           N: "(2M + 2)/U rounded up"
 --     Few k h              at most k blocks are reachable: a list of at most k numbers in which each of them occurs
 --     Good k cs h          after each call at most k are reachable, and each target named was 0 or reachable at that moment
+--     Asking n cs h        no call of the session asks for more than n blocks
+--     RoomFor, MarginFor   no call is refused for want of room, and the margin, where calls ask for at most B blocks: K + 2N + B - 1 ≤ M
 --     RoomEnough           "no allocation is refused for want of room"
 --     Margin               the free count after every call is at least M - K - 2N
 -- A fresh heap is `formatted m u`. Sessions are any calls with any arguments, refused ones among them, without a further Format that
--- answers 0.
+-- answers 0. The calls of document 01 ask for one block at most, so that RoomEnough and Margin are the case B = 1.
 -- Assumes nothing.
 use Prim.Native.Nat.{ℕ, _+_, _-_, _*_, _/_, _≤_}
 use mathlib.Core.Path.{_≡_}
@@ -23,7 +25,8 @@ use Rattle.blocks.specs.Format.{formatted}
 use Rattle.blocks.specs.Session.{Call, does, session}
 use Rattle.blocks.specs.Session.Call.{Allocate}
 use Rattle.promises.specs.Reachable.{Reachable}
-use Rattle.promises.specs.Deeds.{Deed, aUnit, deed, deeds, after}
+use Rattle.promises.specs.Deeds.{Deed, aUnit, deed, after}
+use Rattle.promises.specs.Plans.{deeds, asks}
 use Rattle.promises.specs.Sessions.{NoReset, sessionDeeds, Proper, NoBegin, unitsIn, marksIn}
 
 abbrev pub allocatedBlocks : Heap → ℕ
@@ -60,6 +63,24 @@ pub record Premises (m u k : ℕ) (cs : List Call) : Type 0 where
   pub pace : u ≤ 65535
   pub formats : NoReset cs (formatted m u)
   pub good : Good k cs (formatted m u)
+
+abbrev pub Asking : ℕ → List Call → Heap → Type 0
+Asking n [] h = Unit {0}
+Asking n (c ∷ cs) h = (asks c h ≤ n) × Asking n cs (does c h .heap)
+
+-- with B for n: no call of the session answers 7, nor would any further call that asks for at most B blocks
+pub record RoomFor : Type 0 where
+  pub within :
+      (m u k n : ℕ) (cs : List Call) (c : Call) (ds : List Call) → Premises m u k (cs ++ (c ∷ ds)) → Asking n (cs ++ (c ∷ ds)) (formatted m u)
+      → k + 2 * cycles m u + n ≤ m + 1 → does c (session cs (formatted m u)) .answer .refusal ≢ 7
+  pub further :
+      (m u k n : ℕ) (cs : List Call) → Premises m u k cs → Asking n cs (formatted m u) → k + 2 * cycles m u + n ≤ m + 1
+      → (c : Call) → asks c (session cs (formatted m u)) ≤ n → does c (session cs (formatted m u)) .answer .refusal ≢ 7
+
+abbrev pub MarginFor : Type 0
+MarginFor =
+    (m u k n : ℕ) (cs : List Call) → Premises m u k cs → Asking n cs (formatted m u)
+    → m + 1 ≤ session cs (formatted m u) .regs .count + k + 2 * cycles m u + n
 
 abbrev pub RoomEnough : Type 0
 RoomEnough =

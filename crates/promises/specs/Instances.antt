@@ -23,9 +23,9 @@ use Rattle.blocks.specs.Format.{formatted}
 use Rattle.blocks.specs.Session.{Call, does, session, lastOf}
 use Rattle.blocks.specs.Session.Call.{StoreReference, Allocate, Work}
 use Rattle.promises.specs.Reachable.{Reachable, IsFree}
-use Rattle.promises.specs.Deeds.{Deed, aUnit, aReference, aTake, deed, after}
+use Rattle.promises.specs.Deeds.{aReference, aTake, Deed, aUnit, anAct, deed, after}
 use Rattle.promises.specs.Sessions.{sessionDeeds, Proper, NoBegin, FreedBy}
-use Rattle.promises.specs.Demand3.{cycles, Premises}
+use Rattle.promises.specs.Demand3.{cycles, Premises, Asking}
 
 abbrev pub fresh : Heap
 fresh = formatted 3 1
@@ -36,7 +36,8 @@ leaving = Allocate 0 0 ∷ Allocate 2 0 ∷ Work 3 ∷ StoreReference 2 0 0 ∷ 
 
 -- the deeds of these calls
 abbrev pub before : List Deed
-before = aUnit ∷ aTake 0 0 ∷ aUnit ∷ aTake 2 0 ∷ aUnit ∷ aUnit ∷ aUnit ∷ aReference 2 0 0 ∷ []
+before =
+    aUnit ∷ anAct (aTake 0 0) ∷ aUnit ∷ anAct (aTake 2 0) ∷ aUnit ∷ aUnit ∷ aUnit ∷ anAct (aReference 2 0 0) ∷ []
 
 abbrev pub left : Heap
 left = after before fresh
@@ -57,7 +58,7 @@ pub record Freed : Type 0 where
 
 -- the cycle with a store of target 3 after its first unit: now 3 is marked too, so that it takes a unit more
 abbrev pub saving : List Deed
-saving = aReference 2 1 3 ∷ aUnit ∷ aUnit ∷ aUnit ∷ aUnit ∷ aUnit ∷ aUnit ∷ []
+saving = anAct (aReference 2 1 3) ∷ aUnit ∷ aUnit ∷ aUnit ∷ aUnit ∷ aUnit ∷ aUnit ∷ []
 
 pub record Survives : Type 0 where
   pub deeds : sessionDeeds (leaving ++ Work 1 ∷ StoreReference 2 1 3 ∷ Work 6 ∷ []) fresh ≡ before ++ (aUnit ∷ (saving ++ []))
@@ -134,6 +135,7 @@ pub record Roomy : Type 0 where
   pub many : length long ≡ 200
   pub spans : cycles 20 5 ≡ 9
   pub premises : Premises 20 5 2 long
+  pub asking : Asking 1 long (formatted 20 5)
   pub fits : 2 + 2 * cycles 20 5 ≤ 20
   pub room : (b w : ℕ) → does (Allocate b w) (session long (formatted 20 5)) .answer .refusal ≢ 7
   pub margin : 20 ≤ session long (formatted 20 5) .regs .count + 2 + 2 * cycles 20 5

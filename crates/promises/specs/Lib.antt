@@ -1,6 +1,8 @@
 -- The promises: what they are about, what they say, and the machine seen as the abstract collector.
 pub mod Reachable
 pub mod Deeds
+pub mod Plans
+pub mod Known
 pub mod Sessions
 pub mod Demand2
 pub mod Demand3

@@ -1,6 +1,5 @@
 -- Sessions of calls, deed by deed.
---     Resets c h           the call c is a Format that answers 0 on h
---     NoReset cs h         no call of the session cs from h is
+--     NoReset cs h         no call of the session cs from h makes the heap anew
 --     sessionDeeds cs h    the deeds of a session, in order
 --     Proper ds h          each store and root change among the deeds names 0 or a block reachable at that moment
 --     NoBegin ds h         no unit among the deeds starts a cycle
@@ -18,20 +17,9 @@ use Rattle.blocks.specs.Tests.{if_then_else_}
 use Rattle.blocks.specs.Registers.{idle, marking}
 use Rattle.blocks.specs.Heap.{Heap}
 use Rattle.blocks.specs.Session.{Call, does}
-use Rattle.blocks.specs.Session.Call.{Format, Read, Look, StoreNumber, StoreReference, SetRoot, Allocate, Work, Audit}
 use Rattle.promises.specs.Reachable.{Reachable, IsFree}
-use Rattle.promises.specs.Deeds.{Deed, aUnit, aNumber, aReference, aRoot, aTake, deed, costs, names, deeds}
-
-abbrev pub Resets : Call → Heap → Type 0
-Resets (Format m u) h = does (Format m u) h .answer .refusal ≡ 0
-Resets (Read b w) h = ⊥
-Resets (Look b) h = ⊥
-Resets (StoreNumber b w v) h = ⊥
-Resets (StoreReference b w t) h = ⊥
-Resets (SetRoot t) h = ⊥
-Resets (Allocate b w) h = ⊥
-Resets (Work n) h = ⊥
-Resets Audit h = ⊥
+use Rattle.promises.specs.Deeds.{Deed, aUnit, anAct, deed, costs, names}
+use Rattle.promises.specs.Plans.{Resets, deeds}
 
 abbrev pub NoReset : List Call → Heap → Type 0
 NoReset [] h = Unit {0}
@@ -47,10 +35,7 @@ Proper (d ∷ ds) h = (names d ≢ 0 → Reachable h (names d)) × Proper ds (de
 
 abbrev pub Begins : Deed → Heap → Type 0
 Begins aUnit h = h .regs .phase ≡ idle
-Begins (aNumber b w v) h = ⊥
-Begins (aReference b w t) h = ⊥
-Begins (aRoot t) h = ⊥
-Begins (aTake b w) h = ⊥
+Begins (anAct a) h = ⊥
 
 abbrev pub NoBegin : List Deed → Heap → Type 0
 NoBegin [] h = Unit {0}
@@ -67,10 +52,7 @@ unitsIn (d ∷ ds) = costs d + unitsIn ds
 -- a unit takes a block from the grey list where the phase is marking and the grey head isn't 1
 abbrev pub marking? : Deed → Heap → ℕ
 marking? aUnit h = if eqb (h .regs .phase) marking && not (eqb (h .regs .grey) 1) then 1 else 0
-marking? (aNumber b w v) h = 0
-marking? (aReference b w t) h = 0
-marking? (aRoot t) h = 0
-marking? (aTake b w) h = 0
+marking? (anAct a) h = 0
 
 abbrev pub marksIn : List Deed → Heap → ℕ
 marksIn [] h = 0
