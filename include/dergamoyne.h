@@ -1,9 +1,9 @@
 /* Dergamoyne: a heap of equal blocks with an incremental mark and sweep collector, for programs in C (C99 on) and C++.
    MIT licence, see LICENSE.
 
-   This is the bare library: the calls as they are proved, with the record and the buffers as arguments of each. Most programs
-   are better off with dergamoyne_heap.h, which has them in one struct and makes mistakes hard; this file is what it stands on,
-   and says what the words mean.
+   This header declares the bare library: the calls as they are proved, each with the record and the buffers as arguments. Most
+   programs are better off with dergamoyne_heap.h, which keeps them in one struct and is hard to misuse. It is built on this
+   header, which also explains the terms.
 
        enum { M = 1000 };
        static uint32_t words[8 * M], colours[M];
@@ -30,9 +30,9 @@
    is the pace, 0 to 65,535; with 0 the call chooses more the fewer blocks are free), and as many as you ask for in Work.
    docs/SIZING.md tells how to choose M and U.
 
-   A number of a block that only a variable of yours holds does not keep that block: store a reference to it. A block that
-   can't be reached any more is freed sometime later. From when its end is settled (it is then called doomed) until it is
-   allocated again, every call that names it is refused; after that its number means the new block.
+   Keeping a block's number in a variable does not keep the block: store a reference to it. A block that can no longer be reached
+   is freed some time later. Once the collector is about to free it (it is then called doomed), every call that names it is
+   refused, until it is allocated again; from then on its number means the new block.
 
 
    WHAT YOU LEND
@@ -46,16 +46,16 @@
    That is 37M bytes and the record's 36: 37,036 bytes for 1,000 blocks, 606,244 for 16,384. A call uses them while it runs
    and keeps no pointer: between calls a heap may be moved, copied, or saved and loaded again.
 
-   Write to them through the calls alone. Whatever they contain when a call begins, the call reads and writes nothing outside of
-   them and gives a definite answer, as long as nothing else writes to them while it runs. Where another thread, a signal handler
-   or another process with the same memory does, nothing is promised, staying inside the buffers included: a call tests a number
-   and uses it later. Copy memory that others can write to, and call on the copy.
+   Only the calls should write to them. Whatever they contain when a call begins, the call stays inside them and gives a definite
+   answer, provided that nothing else writes to them while it runs. If another thread, a signal handler or another process that
+   shares the memory does, nothing is promised, not even that the call stays inside: it tests a number first and uses it later.
+   Copy memory that others can write to, and call on the copy.
 
-   Of a heap that something else has written to between calls no more is promised than that: a call that meets damage refuses by
-   2 or 8, and Audit tells whether the heap is still well-formed.
+   If something else has written to a heap between calls, this is all that is promised of it: a call that meets the damage
+   refuses by 2 or 8, and Audit tells whether the heap is still well-formed.
 
-   A refused call leaves the record as it was, but may store the same values into it again: a record in memory that can only be
-   read faults in a call that is lent it.
+   A refused call leaves the record as it was, but may store the same values into it again. So the record of a call that changes
+   the heap must be in memory that can be written to, even if the call will be refused.
 
 
    POINTERS AND LENGTHS
@@ -63,35 +63,37 @@
    A length counts elements, not bytes. Every call tests the three lengths against M, and refuses by 1 where one doesn't fit.
    A buffer of length 0 never fits, since M is at least 1: it is refused, and nothing is read or written through its pointer.
 
-   What a call can't test is yours to see to: that no pointer is null (nor one of length 0), that each is aligned for its
-   type, that the memory behind it is as long as you say, and that no two of the record, the three buffers and Export's
-   buffer overlap. Where one of these fails the behaviour is undefined.
+   A call can't test the following, so you have to ensure it: no pointer is null (not even with length 0), each is aligned for
+   its type, the memory behind it is as long as you say, and no two of the record, the three buffers and Export's buffer overlap.
+   Otherwise the behaviour is undefined.
 
 
    THREADS AND SIGNALS
 
-   The library has no state of its own, takes no memory, and calls nothing of the system. Two calls on different heaps may
-   run at the same time. One heap (its record and its three buffers) must not be in use by two calls at once, whichever calls
-   they are: guard it by a lock of yours, and don't call from a signal handler that may break into a call on the same heap.
+   The library has no state of its own, allocates no memory, and makes no system calls. Two calls on different heaps may run at
+   the same time. Two calls on the same heap (its record and its three buffers) may not, whichever calls they are: protect it
+   with a lock, and don't make calls from a signal handler that may interrupt a call on the same heap.
 
 
    THE ARCHIVE
 
    libdergamoyne.a is for x86-64 with the System V calling convention, as on Linux. It needs `memset` from the C library and
-   nothing else. It uses the SSE registers, so code that runs where nobody saves them (in a kernel) can't call it. It is
-   position-independent. The deepest call takes less than 512 bytes of stack. It has no unwind information, so a debugger or
-   profiler can't walk through a call, and no exception may pass one (there is none to throw); and no control-flow marks (IBT,
-   shadow stack), so a program linked with it doesn't get them either.
+   nothing else. It is position-independent. It uses SSE registers, so it can't be called where they are not saved, as in a
+   kernel. The deepest call takes less than 512 bytes of stack.
+
+   The archive has no unwind information: a debugger or a profiler can't see the callers of a call that is running. It has no
+   control-flow marks (IBT, shadow stack), so a program that is linked with it doesn't have them either.
 
 
    VERSIONS
 
-   DERGAMOYNE_VERSION is the version of this header, dergamoyne_version() that of the library, dergamoyne_record_size() the size
-   of its record: compare them when you start (dergamoyne_heap.h does). CHANGELOG.md tells what each version changes.
+   DERGAMOYNE_VERSION is the version of this header, dergamoyne_version() that of the library, and dergamoyne_record_size() the
+   size of the library's record. Compare them at the start of your program; dergamoyne_heap.h does. CHANGELOG.md says what each
+   version changes.
 
-   Registers will be added to the record. So: let it be zero at the start, write sizeof and never 36, name its fields and
-   don't rely on their order, and compile again with the header of the version that you link. To use the fields is seldom
-   needed: read them as you like, and leave the writing to the calls.
+   Later versions will add registers to the record. So start with a record of zeroes, write sizeof and never 36, use the names of
+   its fields and not their order, and recompile with the header of the version that you link. You may read the fields, but
+   leave writing to the calls.
 
 
    WHAT IS PROVED
@@ -100,9 +102,9 @@
    for all numbers and all contents of what it is lent (crates/dergamoyne/src/lib.rt has the statements). It is proved that on
    a heap made by Format and changed by the calls alone nothing that can be reached is lost, and no call answers 8.
 
-   Not proved: this header, the way in which C passes arguments and results, and the compilers. They are tested: tests/c makes
-   some 50,000 calls through this header, damaged heaps and wrong lengths among them, and compares the answers with a second
-   model's, and of half of them the whole heap afterwards; tests/fuzz compares millions with the same machine in plain C. */
+   Not proved are this header, the way in which C passes arguments and results, and the compilers. These are tested: tests/c makes
+   more than 60,000 calls through this header, damaged heaps and wrong lengths among them, and compares every answer with a
+   second model's, and of 25,000 the whole heap afterwards; tests/fuzz compares millions with the same machine in plain C. */
 #ifndef DERGAMOYNE_H
 #define DERGAMOYNE_H
 

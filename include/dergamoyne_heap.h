@@ -1,5 +1,5 @@
-/* Dergamoyne for people: the calls of dergamoyne.h over one struct that has the record and the buffers together. C99 and C++;
-   everything here is static inline, and there is no state but the struct. MIT licence, see LICENSE.
+/* Dergamoyne in one struct: the calls of dergamoyne.h over a heap that has its record and its buffers together, hard to misuse.
+   For C99 and C++. Everything here is static inline, and there is no state but the struct. MIT licence, see LICENSE.
 
        struct dergamoyne_heap heap;
        uint32_t first, second, number;
@@ -8,20 +8,20 @@
            || dergamoyne_heap_new_block(&heap, first, 0, &second)      a block, held by word 0 of the first
            || dergamoyne_heap_store_number(&heap, second, 1, 42)
            || dergamoyne_heap_read_number(&heap, second, 1, &number))
-           ..                                                          refused: nothing was lost, and nothing was done
+           ..                                                          one of them was refused
        dergamoyne_heap_close(&heap);
 
-   What the words mean (block, word, reference, root, unit), what is promised and what you have to see to stands in dergamoyne.h.
-   A program that uses most of this is examples/c/list.c.
+   dergamoyne.h explains the terms (block, word, reference, root, unit), what is promised, and what you have to ensure.
+   examples/c/list.c is a program that uses most of this.
 
    HOW IT GUARDS AGAINST MISTAKES
 
-   - A function that can be refused returns the refusal, 0 (DERGAMOYNE_DONE) where it is done; the compiler warns where you
-     ignore it. What else it has to tell goes to out parameters, which are left alone where it is refused.
-   - 0 is never taken for a block by accident. A new root, a new block, a null reference and no root have functions of their
-     own; 0 as a holder is refused by 3, as a target by 4.
-   - An export that isn't complete leaves the number of rows alone.
-   - Opening a heap tests that this header and the library are of one version. */
+   - A function that can be refused returns the refusal, or 0 (DERGAMOYNE_DONE). The compiler warns if you ignore it. Results go
+     to out parameters, which a refusal leaves alone.
+   - A 0 can't be taken for a block. There are separate functions for a new root and a new block, for a reference and the null
+     reference, for setting the root and clearing it; a holder 0 is refused by 3, a target 0 by 4.
+   - An export that is not complete does not tell a number of rows.
+   - Opening a heap tests that this header and the library are of the same version. */
 #ifndef DERGAMOYNE_HEAP_H
 #define DERGAMOYNE_HEAP_H
 

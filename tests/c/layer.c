@@ -75,7 +75,8 @@ static void words(struct dergamoyne_heap *h, uint32_t root)
     expect(dergamoyne_heap_read_reference(h, root, 1, &value) == DERGAMOYNE_NOT_A_REFERENCE && value == UNTOUCHED, "no reference");
     expect(dergamoyne_heap_read_number(h, root, 1, &value) == DERGAMOYNE_DONE && value == 42, "the number");
     expect(dergamoyne_heap_new_block(h, root, 2, &second) == DERGAMOYNE_DONE && second == 3, "a block");
-    expect(dergamoyne_heap_read(h, root, 2, &value, &reference) == DERGAMOYNE_DONE && value == 3 && reference == 1, "its reference");
+    expect(dergamoyne_heap_read(h, root, 2, &value, &reference) == DERGAMOYNE_DONE, "its reference");
+    expect(value == 3 && reference == 1, "its reference");
     expect(dergamoyne_heap_read_number(h, root, 2, &value) == DERGAMOYNE_NOT_A_NUMBER, "no number");
     expect(dergamoyne_heap_look(h, 1, &eight) == DERGAMOYNE_NO_SUCH_WORD && eight == NULL, "a refused look");
     expect(dergamoyne_heap_look(h, root, &eight) == DERGAMOYNE_DONE && eight[1] == 42 && eight[2] == 3, "a look");
@@ -177,7 +178,7 @@ static void enough(void)
     dergamoyne_heap_close(&h);
 }
 
-/* ---- texts ---- */
+/* ---- texts and versions ---- */
 
 static void texts(void)
 {
@@ -187,6 +188,14 @@ static void texts(void)
     for (uint32_t n = 1; n < 5; n++)
         expect(strcmp(dergamoyne_reason_text(n), dergamoyne_reason_text(n - 1)) != 0, "a reason has a text of its own");
     expect(strcmp(dergamoyne_refusal_text(10), dergamoyne_refusal_text(11)) == 0, "an unknown refusal");
+}
+
+static void versions(void)
+{
+    char text[40];
+    unsigned n = DERGAMOYNE_VERSION;
+    snprintf(text, sizeof text, "%u.%u.%u", n / 1000000, n / 1000 % 1000, n % 1000);
+    expect(strcmp(text, DERGAMOYNE_VERSION_TEXT) == 0, "the version in text");
     expect(dergamoyne_version() == DERGAMOYNE_VERSION, "the library's version");
     expect(dergamoyne_record_size() == sizeof(struct dergamoyne_regs), "the record's size");
 }
@@ -199,5 +208,6 @@ int main(void)
     undersized();
     enough();
     texts();
+    versions();
     return bad;
 }

@@ -88,7 +88,10 @@ pub extern "C" fn dergamoyne_look(
     let e = checks::entry(regs, words, colours, bytes);
     let n = checks::read_refusal_after(e, regs, words, colours, bytes, b, 0);
     if n != 0 {
-        return LookAnswer { refusal: n, at: 4294967295 };
+        return LookAnswer {
+            refusal: n,
+            at: 4294967295,
+        };
     }
     LookAnswer {
         refusal: 0,
