@@ -333,11 +333,38 @@ static void scatter(void)
     put(RECORD, 6, regs()->phase == 2 ? 2 + below(blocks() + 1) : 0);
 }
 
+static size_t call_named(const char *name)
+{
+    size_t i = 0;
+    while (strcmp(proved[i].name, name) != 0)
+        i++;
+    return i;
+}
+
+/* The audit of a heap in which one colour or one reference is another that is legal in itself. It is put back afterwards, so
+   that the next audit, too, is of a heap that is nearly well-formed. */
+static void audit_bent(void)
+{
+    static const uint32_t colours[] = {0, 1, 4294967294u, 4294967295u};
+    size_t b = below(blocks()), w = 8 * b + below(8);
+    uint32_t colour = get(&sides[0], COLOURS, b), value = get(&sides[0], WORDS, w), byte = get(&sides[0], BYTES, b);
+    if (one_in(2)) {
+        put(COLOURS, b, colours[below(4)]);
+    } else {
+        put(WORDS, w, 2 + below(blocks()));
+        put(BYTES, b, byte | 1u << w % 8);
+    }
+    call = call_named("audit");
+    do_call();
+    put(COLOURS, b, colour);
+    put(WORDS, w, value);
+    put(BYTES, b, byte);
+}
+
 /* A fresh heap; with a number that doesn't fit it stays a record of zeroes. */
 static void format(uint32_t m)
 {
-    for (call = 0; proved[call].numbers[0] != BLOCKS; call++)
-        ;
+    call = call_named("format");
     numbers[0] = m;
     numbers[1] = drawn(PACE);
     do_call();
@@ -380,6 +407,8 @@ static void play(void)
     for (uint32_t i = 0; i < length; i++) {
         if (damaged && one_in(damaged))
             damage();
+        if (!damaged && one_in(8) && blocks() != 0)
+            audit_bent();
         draw_call();
         do_call();
     }
