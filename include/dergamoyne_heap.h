@@ -30,7 +30,7 @@
 #include <string.h>
 
 /* A heap: its record, its buffers with their lengths, and the memory that it owns, NULL where it was lent. Leave the fields to
-   the functions below. */
+   the functions below, and don't go on with a copy beside the original: the two records would be of the same buffers. */
 struct dergamoyne_heap {
     struct dergamoyne_regs regs;
     uint32_t *words, *colours;
@@ -46,7 +46,7 @@ enum dergamoyne_phase { DERGAMOYNE_IDLE = 0, DERGAMOYNE_MARKING = 1, DERGAMOYNE_
 #define DERGAMOYNE_LENT h->words, h->words_length, h->colours, h->colours_length, h->bytes, h->bytes_length
 
 
-/* IN WORDS. They take the number as any answer of the library has it. */
+/* IN WORDS: of a refusal, and of an export's reason. */
 
 static inline const char *dergamoyne_refusal_text(uint32_t refusal)
 {
@@ -113,23 +113,41 @@ static inline void dergamoyne_heap_none(struct dergamoyne_heap *h)
     h->bytes = (uint8_t *)&h->regs;
 }
 
+/* Refused by 101 unless this header and the library are of the same version. */
+DERGAMOYNE_REFUSABLE dergamoyne_heap_version_(void)
+{
+    if (dergamoyne_version() != DERGAMOYNE_VERSION || dergamoyne_record_size() != sizeof(struct dergamoyne_regs))
+        return DERGAMOYNE_OTHER_VERSION;
+    return DERGAMOYNE_DONE;
+}
+
+/* The heap of this record, in these buffers. */
+static inline void dergamoyne_heap_place_(struct dergamoyne_heap *h, struct dergamoyne_regs regs, uint32_t *words,
+                                          size_t words_length, uint32_t *colours, size_t colours_length, uint8_t *bytes,
+                                          size_t bytes_length)
+{
+    h->regs = regs;
+    h->words = words, h->words_length = words_length;
+    h->colours = colours, h->colours_length = colours_length;
+    h->bytes = bytes, h->bytes_length = bytes_length;
+}
+
 /* A heap of so many blocks in memory of yours, all blocks free. Each length counts elements: 8 * blocks, blocks and blocks.
-   The memory stays yours: it must stay there while the heap is used. Refusals: 1, 101. */
+   The memory must remain while the heap is used. Refusals: 1, 101. */
 DERGAMOYNE_REFUSABLE dergamoyne_heap_lend(struct dergamoyne_heap *h, uint32_t blocks, uint32_t pace, uint32_t *words,
                                           size_t words_length, uint32_t *colours, size_t colours_length, uint8_t *bytes,
                                           size_t bytes_length)
 {
+    struct dergamoyne_regs regs;
     struct dergamoyne_answer a;
     dergamoyne_heap_none(h);
-    if (dergamoyne_version() != DERGAMOYNE_VERSION || dergamoyne_record_size() != sizeof h->regs)
+    memset(&regs, 0, sizeof regs);
+    if (dergamoyne_heap_version_() != DERGAMOYNE_DONE)
         return DERGAMOYNE_OTHER_VERSION;
-    a = dergamoyne_format(&h->regs, words, words_length, colours, colours_length, bytes, bytes_length, blocks, pace);
-    if (a.refusal != DERGAMOYNE_DONE)
-        return (enum dergamoyne_refusal)a.refusal;
-    h->words = words, h->words_length = words_length;
-    h->colours = colours, h->colours_length = colours_length;
-    h->bytes = bytes, h->bytes_length = bytes_length;
-    return DERGAMOYNE_DONE;
+    a = dergamoyne_format(&regs, words, words_length, colours, colours_length, bytes, bytes_length, blocks, pace);
+    if (a.refusal == DERGAMOYNE_DONE)
+        dergamoyne_heap_place_(h, regs, words, words_length, colours, colours_length, bytes, bytes_length);
+    return (enum dergamoyne_refusal)a.refusal;
 }
 
 /* A heap of 1 to 16,384 blocks that owns its memory, 37 bytes a block; the pace is 0 to 65,535. Close it when done; one that
@@ -392,6 +410,21 @@ dergamoyne_check(struct dergamoyne_regs regs, const uint32_t *words, size_t word
 DERGAMOYNE_REFUSABLE dergamoyne_heap_check(const struct dergamoyne_heap *h)
 {
     return dergamoyne_check(h->regs, DERGAMOYNE_LENT);
+}
+
+/* A heap that was saved: `regs` is the record of the heap that it was, and the buffers, in memory of yours, have its contents. It
+   is tested first, as by dergamoyne_check. Refusals: 1, 2, 8, 101. */
+DERGAMOYNE_REFUSABLE dergamoyne_heap_resume(struct dergamoyne_heap *h, struct dergamoyne_regs regs, uint32_t *words,
+                                            size_t words_length, uint32_t *colours, size_t colours_length, uint8_t *bytes,
+                                            size_t bytes_length)
+{
+    enum dergamoyne_refusal refusal = dergamoyne_heap_version_();
+    dergamoyne_heap_none(h);
+    if (refusal == DERGAMOYNE_DONE)
+        refusal = dergamoyne_check(regs, words, words_length, colours, colours_length, bytes, bytes_length);
+    if (refusal == DERGAMOYNE_DONE)
+        dergamoyne_heap_place_(h, regs, words, words_length, colours, colours_length, bytes, bytes_length);
+    return refusal;
 }
 
 #undef DERGAMOYNE_REFUSABLE

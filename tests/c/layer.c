@@ -48,6 +48,25 @@ static void lending(void)
     dergamoyne_heap_close(&h);
 }
 
+/* A heap saved and loaded elsewhere goes on where it was; a damaged one is refused. */
+static void resuming(void)
+{
+    struct dergamoyne_heap h, other;
+    uint32_t first = 0, second = 0, words[16], colours[2];
+    uint8_t bytes[2];
+    expect(dergamoyne_heap_open(&h, 2, 1) == DERGAMOYNE_DONE && dergamoyne_heap_new_root(&h, &first) == DERGAMOYNE_DONE, "a heap");
+    memcpy(words, h.words, sizeof words);
+    memcpy(colours, h.colours, sizeof colours);
+    memcpy(bytes, h.bytes, sizeof bytes);
+    expect(dergamoyne_heap_resume(&other, h.regs, words, 16, colours, 2, bytes, 2) == DERGAMOYNE_DONE, "it is resumed");
+    expect(dergamoyne_heap_new_block(&other, first, 0, &second) == DERGAMOYNE_DONE && second == 3, "it goes on");
+    expect(dergamoyne_heap_resume(&other, h.regs, words, 16, colours, 2, bytes, 2) == DERGAMOYNE_DAMAGE, "an older record");
+    expect(dergamoyne_heap_resume(&other, h.regs, words, 64, colours, 2, bytes, 2) == DERGAMOYNE_DOES_NOT_FIT, "a length in bytes");
+    expect(dergamoyne_heap_work(&other, 1) == DERGAMOYNE_DOES_NOT_FIT, "there is no heap then");
+    dergamoyne_heap_close(&other);
+    dergamoyne_heap_close(&h);
+}
+
 /* ---- what must not be taken for something else ---- */
 
 static void zeroes(struct dergamoyne_heap *h, uint32_t root)
@@ -204,6 +223,7 @@ int main(void)
 {
     opening();
     lending();
+    resuming();
     small_heap();
     undersized();
     enough();
