@@ -1,9 +1,8 @@
 -- `dergamoyne::dergamoyne_store_number` meets its contract: the law of the outer calls, over `storing::store_number`. Assumes nothing.
-use mathlib.Core.List.{[]}
 use Rattle.blocks.specs.Store.{storeNumber}
 use Rattle.storing.proofs.store_number.Symbol as core
 use Rattle.storing.proofs.store_number.Met as core-thm
-use Rattle.lending.proofs.Back.{only}
+use Rattle.lending.proofs.Back.{nothing}
 use Rattle.lending.proofs.Outer.{lends}
 use Rattle.dergamoyne.proofs.Keeping.{number-keeps}
 use Rattle.dergamoyne.proofs.dergamoyne_store_number.Key.{name}
@@ -13,5 +12,5 @@ use Rattle.dergamoyne.proofs.dergamoyne_store_number.Code as code
 pub dergamoyne-store-number-spec : {M : Type 1} → statement M
 unfolding code.routine
 dergamoyne-store-number-spec 𝓤 H 𝓜 𝓖 𝓡 =
-    lends 3 (λ m. storeNumber (m .0) (m .1 .0) (m .1 .1 .0)) (only [] 3) (λ m h. number-keeps (m .0) (m .1 .0) (m .1 .1 .0) h) core.name 𝓤 H 𝓜 𝓖 𝓡 code.env name (code.unfolded 𝓤 H 𝓜 𝓡)
+    lends 3 (λ m. storeNumber (m .0) (m .1 .0) (m .1 .1 .0)) (nothing 3) (λ m h. number-keeps (m .0) (m .1 .0) (m .1 .1 .0) h) core.name 𝓤 H 𝓜 𝓖 𝓡 code.env name (code.unfolded 𝓤 H 𝓜 𝓡)
     core.routine code.calls-storing·store-number (core-thm.met 𝓤 H 𝓜 𝓖 𝓡)
