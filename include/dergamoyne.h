@@ -257,9 +257,9 @@ DERGAMOYNE_MUST_USE struct dergamoyne_answer dergamoyne_store_reference(
     uint8_t *bytes, size_t bytes_length, uint32_t b, uint32_t w, uint32_t t);
 
 /* Look: where the eight words of the block b stand, to be read from words[at] to words[at + 7] without a call for each. It
-   refuses where Read of word 0 would: 1, 2, 3, 8, 5; at is then DERGAMOYNE_NO_INDEX, so that a careless read faults and doesn't
-   find another block's words. It changes nothing. The place of a block never changes; after an Allocate or a Work, ask again
-   whether it may be read. */
+   refuses where Read of word 0 would: 1, 2, 3, 8, 5. at is then DERGAMOYNE_NO_INDEX, so that words[at] faults where an index 0
+   would read another block; test the refusal all the same, since at + 1 in 32 bits is 0. It changes nothing. The place of a
+   block never changes; after an Allocate or a Work, ask again whether it may be read. */
 DERGAMOYNE_MUST_USE struct dergamoyne_look_answer dergamoyne_look(
     struct dergamoyne_regs regs, const uint32_t *words, size_t words_length, const uint32_t *colours,
     size_t colours_length, const uint8_t *bytes, size_t bytes_length, uint32_t b);
