@@ -235,7 +235,7 @@ static void idle_measures(void)
     measure("look", 0);
     after(CALL(look, MACHINE_SEEN(r), LENT, 2).refusal);
     measure("store-number", 0);
-    after(CALL(store_number, MACHINE_SEEN(r), LENT, 2, 7, 5).refusal);
+    after(CALL(store_number, &r, LENT, 2, 7, 5).refusal);
     measure("store-reference", 0);
     after(CALL(store_reference, &r, LENT, 2, 2, 3).refusal);
     measure("set-root", 0);

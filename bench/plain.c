@@ -1,4 +1,4 @@
-/* The block machine of document 01 in plain C, every test in: its calls, the audit apart. See plain.h. */
+/* The block machine of document 01 in plain C, every test in: its calls, the audit and the export apart. See plain.h. */
 #include "plain_layout.h"
 #include <string.h>
 
@@ -60,10 +60,10 @@ struct plain_look_answer plain_look(const struct plain_regs *r, PLAIN_SEEN, uint
 {
     (void)words, (void)bytes;
     uint32_t e = word_refusal(r, words_length, colours, colours_length, bytes_length, b, 0);
-    return (struct plain_look_answer){e, e ? 0 : 8 * (b - 2)};
+    return (struct plain_look_answer){e, e ? UINT32_MAX : 8 * (b - 2)};
 }
 
-struct plain_answer plain_store_number(const struct plain_regs *r, PLAIN_LENT, uint32_t b, uint32_t w, uint32_t v)
+struct plain_answer plain_store_number(struct plain_regs *r, PLAIN_LENT, uint32_t b, uint32_t w, uint32_t v)
 {
     uint32_t e = word_refusal(r, words_length, colours, colours_length, bytes_length, b, w);
     if (e)

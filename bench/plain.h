@@ -1,8 +1,8 @@
 /* The block machine of document 01 in plain C, every test in: what the proved calls are counted beside.
 
    The calls are those of the library's header, with the same arguments and answers, under the prefix plain_. The calls that
-   change no register take the record by a pointer to const, as C does it. The caller has the same duties: each pointer is
-   aligned, not null, points to as many elements as the length after it says, and no two of the four overlap. */
+   only look take the record by a pointer to const, as C does it. The caller has the same duties: each pointer is
+   aligned, not null, points to as many elements as the length after it says, and no two overlap. */
 #ifndef PLAIN_H
 #define PLAIN_H
 
@@ -25,6 +25,10 @@ struct plain_look_answer {
     uint32_t refusal, at;
 };
 
+struct plain_export_answer {
+    uint32_t complete, rows, reason, refusal;
+};
+
 /* The three lent buffers, each with its length: to be changed, and to be read only. */
 #define PLAIN_LENT                                                                                                             \
     uint32_t *words, size_t words_length, uint32_t *colours, size_t colours_length, uint8_t *bytes, size_t bytes_length
@@ -35,11 +39,13 @@ struct plain_look_answer {
 struct plain_answer plain_format(struct plain_regs *r, PLAIN_LENT, uint32_t m, uint32_t u);
 struct plain_read_answer plain_read(const struct plain_regs *r, PLAIN_SEEN, uint32_t b, uint32_t w);
 struct plain_look_answer plain_look(const struct plain_regs *r, PLAIN_SEEN, uint32_t b);
-struct plain_answer plain_store_number(const struct plain_regs *r, PLAIN_LENT, uint32_t b, uint32_t w, uint32_t v);
+struct plain_answer plain_store_number(struct plain_regs *r, PLAIN_LENT, uint32_t b, uint32_t w, uint32_t v);
 struct plain_answer plain_store_reference(struct plain_regs *r, PLAIN_LENT, uint32_t b, uint32_t w, uint32_t t);
 struct plain_answer plain_set_root(struct plain_regs *r, PLAIN_LENT, uint32_t t);
 struct plain_answer plain_allocate(struct plain_regs *r, PLAIN_LENT, uint32_t b, uint32_t w);
 struct plain_answer plain_work(struct plain_regs *r, PLAIN_LENT, uint32_t n);
 struct plain_answer plain_audit(const struct plain_regs *r, PLAIN_SEEN);
+struct plain_export_answer plain_export(const struct plain_regs *r, PLAIN_SEEN, uint32_t *out, size_t out_length, uint32_t start,
+                                        uint32_t link);
 
 #endif

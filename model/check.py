@@ -10,6 +10,7 @@ import time
 
 import damage
 import draw
+import exports
 import facts
 import lines
 import machine
@@ -349,6 +350,20 @@ def cases_by_hand():
     return f"{count} cases"
 
 
+def exports_by_hand():
+    """Each answer of Export; of the buffer exactly the rows counted are written,
+    which are the words of the blocks from the start on."""
+    count = 0
+    for what, h, room, start, link, wanted in exports.by_hand():
+        before, out = machine.copy(h), [7777] * room
+        equal(exports.export(h, out, start, link), wanted, what)
+        first, words = 8 * max(start - 2, 0), 8 * wanted[1]
+        equal(out, (before.words[first:first + words] + [7777] * room)[:room], what)
+        need(h == before, f"{what}: the heap is changed", before, h)
+        count += 1
+    return f"{count} cases"
+
+
 def leaves_its_units(before, h, letter, answer):
     """A refusal has value 0 and changes nothing, except that in Work and
     Allocate the units finished before it stand and are counted."""
@@ -394,8 +409,8 @@ def damaged_heaps():
 
 # ------------------------------------------------------------------ all of it
 
-TESTS = [hand_checked_cases, the_listing, rules_of_lines, cases_by_hand, damaged_heaps,
-         drawn_heaps, long_runs, room_enough, room_enough_exhaustive]
+TESTS = [hand_checked_cases, the_listing, rules_of_lines, cases_by_hand, exports_by_hand,
+         damaged_heaps, drawn_heaps, long_runs, room_enough, room_enough_exhaustive]
 
 
 def main():

@@ -1,11 +1,10 @@
 """The program `roster` on the second model: python3 model/roster.py prints
 what it has to print.
 
-A list of rows is stored while garbage is made, and exported as the clause on
-exports says: complete, or not, with the first reason met; each block is tested
-before its row is taken.
+A list of rows is stored while garbage is made, and exported (exports.py).
 """
 
+import exports
 import machine
 
 M, U = 16384, 10
@@ -15,26 +14,17 @@ TOP = 4294967295
 LINK, HELD = 0, 7
 
 
-def export(h, start, room):
-    """The rows of the list from start on, and why they are not all, or None.
+REASONS = {exports.CIRCLE: "the list runs in a circle", exports.NO_ROOM: "no room for the next",
+           exports.REFUSED: "Read refuses the next by {}",
+           exports.NO_REFERENCE: "the next has no reference in its link word"}
 
-    "more than M rows; no room; the refusal of Read, with its number; a link
-    word that is no reference", in this order.
-    """
-    rows, block = [], start
-    while block != machine.NO_BLOCK:
-        if len(rows) == h.M:
-            return rows, "the list runs in a circle"
-        if 8 * len(rows) + 8 > room:
-            return rows, "no room for the next"
-        refusal, value, _, reference = machine.read(h, block, LINK)
-        if refusal != 0:
-            return rows, f"Read refuses the next by {refusal}"
-        if not reference:
-            return rows, "the next has no reference in its link word"
-        rows.append([machine.get_word(h, block, word) for word in range(8)])
-        block = value
-    return rows, None
+
+def export(h, start, room):
+    """The rows of the list from start on, and why they are not all, or None."""
+    out = [0] * room
+    complete, rows, reason, refusal = exports.export(h, out, start, LINK)
+    found = [out[8 * n:8 * n + 8] for n in range(rows)]
+    return found, None if complete else REASONS[reason].format(refusal)
 
 
 def outcome(found):

@@ -1,6 +1,6 @@
 """python3 model/vectors.py DIR writes DIR/heaprun, DIR/heapprobe and
-DIR/listing, each with the input `stdin` and the model's output `stdout`, and
-DIR/roster, which has no input.
+DIR/listing, each with the input `stdin` and the model's output `stdout`,
+DIR/roster, which has no input, and DIR/c/cases.txt for the tests from C.
 
 The files follow from fixed seeds. It fails if a refusal that a call can give
 is missing from them.
@@ -10,6 +10,7 @@ import os
 import random
 import sys
 
+import calls
 import check
 import damage
 import draw
@@ -181,15 +182,20 @@ def missing(found, wanted):
 # -------------------------------------------------------------- writing
 
 def write(folder, **contents):
-    os.makedirs(folder, exist_ok=True)
     for name, content in contents.items():
-        with open(os.path.join(folder, name), "wb") as file:
-            file.write(content)
+        write_file(folder, name, content)
+
+
+def write_file(folder, name, content):
+    os.makedirs(folder, exist_ok=True)
+    with open(os.path.join(folder, name), "wb") as file:
+        file.write(content)
 
 
 def main(folder):
     write(os.path.join(folder, "listing"), stdin=check.LISTING_IN, stdout=lines.heaprun(check.LISTING_IN))
     write(os.path.join(folder, "roster"), stdout=roster.output())
+    write_file(os.path.join(folder, "c"), "cases.txt", "".join(calls.stored()).encode())
     failed = False
     for name, program, inputs, counts, wanted, last in [
             ("heaprun", lines.heaprun, heaprun_lines(), heaprun_counts, heaprun_wanted(), b""),

@@ -1,174 +1,134 @@
 /* The smallest whole use of the library: a heap of four blocks, a list of three rows on it, read back and exported; then each
-   refusal, provoked on purpose; then the list is let go, and its blocks come back.
+   refusal, provoked on purpose; then the list is let go, and its blocks come back. Where something is refused that should not
+   be, the program says so and stops.
 
-   examples/c/expected has what it must print, worked out by hand from document 01. The comments below have the steps: U is 1,
-   so each Allocate does one unit of the collector's work. */
-#include "dergamoyne.h"
+   examples/c/expected has what it must print, worked out by hand from document 01. The comments below have the steps: the pace
+   is 1, so each new block does one unit of the collector's work. */
+#include "dergamoyne_heap.h"
 #include <stdio.h>
 
-enum { M = 4, U = 1, LINK = 0, NUMBER = 1 };
+enum { BLOCKS = 4, PACE = 1, LINK = 0, NUMBER = 1, ROWS = 3 };
 
-static struct dergamoyne_regs regs;
-static uint32_t words[8 * M], colours[M];
-static uint8_t bytes[M];
-
-#define LENT words, 8 * M, colours, M, bytes, M
-
-/* A refusal number in words. */
-static const char *in_words(uint32_t refusal)
+/* A new row, behind the block *last or as the first, with its number. *last is then the new row; where the row is refused it
+   stays, so the list keeps its end. */
+static enum dergamoyne_refusal add_row(struct dergamoyne_heap *h, uint32_t *last, uint32_t number)
 {
-    switch (refusal) {
-    case DERGAMOYNE_DONE:
-        return "done";
-    case DERGAMOYNE_DOES_NOT_FIT:
-        return "M, U or a buffer's length doesn't fit";
-    case DERGAMOYNE_REGISTERS:
-        return "the registers are not legal";
-    case DERGAMOYNE_NO_SUCH_WORD:
-        return "there is no such block or word";
-    case DERGAMOYNE_NO_SUCH_TARGET:
-        return "there is no such target";
-    case DERGAMOYNE_BLOCK_GONE:
-        return "the block is free or about to be";
-    case DERGAMOYNE_TARGET_GONE:
-        return "the target is free or about to be";
-    case DERGAMOYNE_NO_FREE_BLOCK:
-        return "no block is free";
-    case DERGAMOYNE_DAMAGE:
-        return "the heap is damaged";
-    case DERGAMOYNE_TOO_MANY_UNITS:
-        return "too many units for one call";
-    }
-    return "no number of this version";
-}
-
-/* Why an export is not complete, in words. */
-static const char *why(struct dergamoyne_export_answer a)
-{
-    switch (a.reason) {
-    case DERGAMOYNE_COMPLETE:
-        return "it is complete";
-    case DERGAMOYNE_CIRCLE:
-        return "the list runs in a circle";
-    case DERGAMOYNE_NO_ROOM:
-        return "the next row doesn't fit";
-    case DERGAMOYNE_REFUSED:
-        return in_words(a.refusal);
-    case DERGAMOYNE_NO_REFERENCE:
-        return "the next block's link is a number";
-    }
-    return "no reason of this version";
-}
-
-/* The value of an answer that should not be refused; where it is, that is said. */
-static uint32_t value_of(const char *call, struct dergamoyne_answer a)
-{
-    if (a.refusal != DERGAMOYNE_DONE)
-        printf("%s: %s\n", call, in_words(a.refusal));
-    return a.value;
-}
-
-/* A new row behind the block `last`, or with 0 the first row, which the root holds. Its link is the reference to none. */
-static uint32_t add_row(uint32_t last, uint32_t number)
-{
-    uint32_t b = value_of("allocate", dergamoyne_allocate(&regs, LENT, last, LINK));
-    value_of("link", dergamoyne_store_reference(&regs, LENT, b, LINK, 0));
-    value_of("number", dergamoyne_store_number(regs, LENT, b, NUMBER, number));
-    return b;
+    enum dergamoyne_refusal r;
+    if (dergamoyne_heap_root(h) == 0)
+        r = dergamoyne_heap_first_row(h, LINK, last);
+    else
+        r = dergamoyne_heap_new_row(h, *last, LINK, LINK, last);
+    if (r != DERGAMOYNE_DONE)
+        return r;
+    return dergamoyne_heap_store_number(h, *last, NUMBER, number);
 }
 
 /* The first unit begins a cycle (marking), the second finds nothing grey (sweeping, position 2), the third sweeps block 2,
    which is black and becomes white. The rows are the blocks 2, 3 and 4, the free blocks in rising order. */
-static void build(void)
+static enum dergamoyne_refusal build(struct dergamoyne_heap *h)
 {
+    enum dergamoyne_refusal r = DERGAMOYNE_DONE;
     uint32_t last = 0;
-    value_of("format", dergamoyne_format(&regs, LENT, M, U));
-    for (uint32_t n = 1; n <= 3; n++)
-        last = add_row(last, 10 * n);
+    for (uint32_t n = 1; n <= ROWS && r == DERGAMOYNE_DONE; n++)
+        r = add_row(h, &last, 10 * n);
+    return r;
 }
 
-/* The rows, by Read, from the root on. */
-static void read_back(void)
+/* The rows one by one, from the root on. */
+static enum dergamoyne_refusal read_back(const struct dergamoyne_heap *h)
 {
-    uint32_t b = regs.root;
-    while (b != 0) {
-        struct dergamoyne_read_answer number = dergamoyne_read(regs, LENT, b, NUMBER);
-        struct dergamoyne_read_answer link = dergamoyne_read(regs, LENT, b, LINK);
-        if (number.refusal != DERGAMOYNE_DONE || link.refusal != DERGAMOYNE_DONE || !link.reference) {
-            printf("block %u: this is no list\n", (unsigned)b);
-            return;
-        }
-        printf("block %u: %u\n", (unsigned)b, (unsigned)number.value);
-        b = link.value;
+    uint32_t number = 0, block = dergamoyne_heap_root(h);
+    while (block != 0) {
+        enum dergamoyne_refusal r = dergamoyne_heap_read_number(h, block, NUMBER, &number);
+        if (r != DERGAMOYNE_DONE)
+            return r;
+        printf("block %u: %u\n", (unsigned)block, (unsigned)number);
+        r = dergamoyne_heap_read_reference(h, block, LINK, &block);
+        if (r != DERGAMOYNE_DONE)
+            return r;
     }
+    return DERGAMOYNE_DONE;
 }
 
-/* The rows, by Export: complete, or it says why not. */
-static void export_rows(uint32_t start)
+/* The rows at once: all of them, or the reason why not. */
+static void export_rows(const struct dergamoyne_heap *h, uint32_t start)
 {
-    uint32_t out[8 * M];
-    struct dergamoyne_export_answer a = dergamoyne_export(regs, LENT, out, 8 * M, start, LINK);
-    if (a.complete)
-        printf("export: complete, rows: %u\n", (unsigned)a.rows);
-    else
-        printf("export: NOT complete, rows: %u, reason %u: %s\n", (unsigned)a.rows, (unsigned)a.reason, why(a));
-    for (uint32_t n = 0; n < a.rows; n++)
-        printf("row %u: next %u, number %u\n", (unsigned)n, (unsigned)out[8 * n + LINK], (unsigned)out[8 * n + NUMBER]);
+    uint32_t out[BLOCKS][8], rows = 0;
+    struct dergamoyne_export_answer details;
+    enum dergamoyne_reason why = dergamoyne_heap_export(h, start, LINK, out, BLOCKS, &rows, &details);
+    if (why != DERGAMOYNE_COMPLETE) {
+        printf("export: NOT complete after %u rows: %s", (unsigned)details.rows, dergamoyne_reason_text(why));
+        printf(" (%s)\n", dergamoyne_refusal_text(details.refusal));
+        return;
+    }
+    printf("export: complete, rows: %u\n", (unsigned)rows);
+    for (uint32_t n = 0; n < rows; n++)
+        printf("row %u: next %u, number %u\n", (unsigned)n, (unsigned)out[n][LINK], (unsigned)out[n][NUMBER]);
 }
 
-static void show(uint32_t refusal, uint32_t units)
+static void show(enum dergamoyne_refusal r)
 {
-    printf("refusal %u, units %u: %s\n", (unsigned)refusal, (unsigned)units, in_words(refusal));
+    printf("%u: %s\n", (unsigned)r, dergamoyne_refusal_text(r));
 }
 
-static void show_answer(struct dergamoyne_answer a)
+/* Each refusal of the calls once, in the order of its number. For 1, 2 and 8 the example writes where only the library should. */
+static void refusals(struct dergamoyne_heap *h)
 {
-    show(a.refusal, a.units);
-}
-
-static void show_read(struct dergamoyne_read_answer a)
-{
-    show(a.refusal, a.units);
-}
-
-/* Each refusal once, in the order of its number. */
-static void refusals(void)
-{
-    struct dergamoyne_regs broken = regs;
-    uint32_t colour = colours[0];
-    show_read(dergamoyne_read(regs, words, 8 * M - 1, colours, M, bytes, M, 2, 0));
-    broken.phase = 3;
-    show_read(dergamoyne_read(broken, LENT, 2, 0));
-    show_read(dergamoyne_read(regs, LENT, 2, 8));
-    show_answer(dergamoyne_set_root(&regs, LENT, M + 2));
-    show_read(dergamoyne_read(regs, LENT, 5, 0)); /* block 5 is free still */
-    show_answer(dergamoyne_store_reference(&regs, LENT, 2, 2, 5));
+    struct dergamoyne_heap wrong = *h;
+    uint32_t colour = h->colours[0], block = 0, value = 0;
+    int reference;
+    wrong.words_length = 4 * h->words_length; /* bytes, for elements */
+    show(dergamoyne_heap_check(&wrong));
+    wrong = *h;
+    wrong.regs.phase = 3;
+    show(dergamoyne_heap_check(&wrong));
+    show(dergamoyne_heap_new_block(h, 0, 0, &block)); /* no holder */
+    show(dergamoyne_heap_set_root(h, BLOCKS + 2));
+    show(dergamoyne_heap_read(h, 5, 0, &value, &reference)); /* block 5 is free still */
+    show(dergamoyne_heap_store_reference(h, 2, 2, 5));
     /* Block 5 is taken, while the sweep passes block 3; then none is left, while it passes block 4: that unit stands. */
-    show_answer(dergamoyne_allocate(&regs, LENT, 2, 2));
-    show_answer(dergamoyne_allocate(&regs, LENT, 2, 3));
-    colours[0] = 4294967293u; /* the colour of block 2, which nobody but the library should write to */
-    show_read(dergamoyne_read(regs, LENT, 2, 0));
-    colours[0] = colour;
-    show_answer(dergamoyne_work(&regs, LENT, 65536));
-    printf("audit: %u\n", (unsigned)dergamoyne_audit(regs, LENT).value);
+    show(dergamoyne_heap_new_block(h, 2, 2, &block));
+    show(dergamoyne_heap_new_block(h, 2, 3, &block));
+    h->colours[0] = 4294967293u;
+    show(dergamoyne_heap_check(h));
+    h->colours[0] = colour;
+    show(dergamoyne_heap_work(h, 65536));
+    show(dergamoyne_heap_check(h));
 }
 
 /* Without a root everything is garbage. One unit ends the sweep (block 5, black, becomes white); one begins a cycle, one finds
-   nothing to mark, and four sweep the blocks 2 to 5, which are white, and free them: seven. */
-static void let_go(void)
+   nothing to mark, and four sweep the blocks 2 to 5, which are white, and free them: seven, and the rest of the units begin
+   another cycle. */
+static enum dergamoyne_refusal let_go(struct dergamoyne_heap *h)
 {
-    value_of("set root", dergamoyne_set_root(&regs, LENT, 0));
-    value_of("work", dergamoyne_work(&regs, LENT, 7));
-    printf("free blocks: %u of %d\n", (unsigned)regs.count, M);
-    export_rows(2);
+    enum dergamoyne_refusal r = dergamoyne_heap_clear_root(h);
+    if (r == DERGAMOYNE_DONE)
+        r = dergamoyne_heap_collect(h);
+    printf("free blocks: %u of %u\n", (unsigned)dergamoyne_heap_free_blocks(h), (unsigned)dergamoyne_heap_blocks(h));
+    export_rows(h, 2);
+    return r;
+}
+
+static enum dergamoyne_refusal run(struct dergamoyne_heap *h)
+{
+    enum dergamoyne_refusal r = build(h);
+    if (r == DERGAMOYNE_DONE)
+        r = read_back(h);
+    if (r != DERGAMOYNE_DONE)
+        return r;
+    export_rows(h, dergamoyne_heap_root(h));
+    refusals(h);
+    return let_go(h);
 }
 
 int main(void)
 {
-    build();
-    read_back();
-    export_rows(regs.root);
-    refusals();
-    let_go();
-    return 0;
+    struct dergamoyne_heap heap;
+    enum dergamoyne_refusal r = dergamoyne_heap_open(&heap, BLOCKS, PACE);
+    if (r == DERGAMOYNE_DONE)
+        r = run(&heap);
+    dergamoyne_heap_close(&heap);
+    if (r != DERGAMOYNE_DONE)
+        printf("stopped: %s\n", dergamoyne_refusal_text(r));
+    return r != DERGAMOYNE_DONE;
 }

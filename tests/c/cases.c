@@ -1,126 +1,208 @@
-/* The program heapprobe over the library: single calls from standard input, each on a heap given whole, damaged or not and of
-   any lengths. A case is a line
-       LETTER x y z lw lc lb M U phase grey free count position root cycle <lw words> <lc colours> <lb bytes>
-   It prints three numbers, then the registers, words, colours and bytes after the call; for a line that is no case `99 0 0`.
+/* Single calls on memory given whole, from the second model's cases: any call, on a heap damaged or not and of any lengths. After
+   each call its answer, every register and every buffer are compared with what the model says, and the memory beside each
+   buffer with what it was.
 
-   Around each buffer stand words that no call may change: where one does, it says so and exits with 1. */
+       cases < FILE
+
+   A case is two lines, before the call and after it:
+       NAME <numbers> <registers> <words> <colours> <bytes> <out>
+       <answer> <registers> <words> <colours> <bytes> <out>
+   Each <list> is its length and then its numbers; model/calls.py writes them. The last line printed tells how many there were.
+   Where something differs, or a call has no case, it says what and exits with 1. */
 #include "machine.h"
-#include "lines.h"
-#include <string.h>
+#include <ctype.h>
+#include <stdio.h>
+#include <stdlib.h>
 
-enum { WORDS = 64, COLOURS = 8, BYTES = 8, HEAD = 15, EDGE = 8 };
+enum { EDGE = 64, FILLED = 0xA5, PARTS = 5, LONGEST_NAME = 40 };
 
-/* The buffers, each with an edge before its lent part, and one right behind it. */
-static uint32_t words[EDGE + WORDS + EDGE], colours[EDGE + COLOURS + EDGE];
-static uint8_t bytes[EDGE + BYTES + EDGE];
+/* A buffer that is lent, with an edge before it and one right behind it. The width is that of an element, in bytes. */
+struct part {
+    const char *name;
+    size_t width, length;
+    unsigned char *memory;
+};
 
-/* Fills the two edges of a buffer. The sizes, of its lent part and of an edge, are in bytes. */
-static void fill_edges(void *buffer, size_t lent, size_t edge)
+static struct part parts[PARTS] = {
+    {"register", 4, 0, NULL}, {"words", 4, 0, NULL}, {"colours", 4, 0, NULL}, {"bytes", 1, 0, NULL}, {"out", 4, 0, NULL}};
+
+/* The case at hand: its number, its call and the call's numbers. */
+static unsigned long number;
+static const struct call *call;
+static uint32_t numbers[MOST_NUMBERS];
+
+/* ---- saying what is wrong ---- */
+
+static void say_case(void)
 {
-    memset(buffer, 0xA5, edge);
-    memset((unsigned char *)buffer + edge + lent, 0xA5, edge);
+    printf("case %lu", number);
+    if (call == NULL)
+        return;
+    printf(", %s", call->name);
+    for (unsigned i = 0; i < call->count; i++)
+        printf(" %lu", (unsigned long)numbers[i]);
 }
 
-/* Ends the program where an edge isn't as it was filled. */
-static void test_edges(const char *name, const void *buffer, size_t lent, size_t edge)
+static void fail(const char *what)
 {
-    const unsigned char *before = buffer, *behind = before + edge + lent;
-    for (size_t i = 0; i < edge; i++)
-        if (before[i] != 0xA5 || behind[i] != 0xA5) {
-            fprintf(stderr, "a call wrote outside of %s\n", name);
+    say_case();
+    printf(": %s\n", what);
+    exit(1);
+}
+
+static void differs(const char *name, size_t at, uint32_t is, uint32_t expected)
+{
+    say_case();
+    printf(": %s %lu is %lu, expected %lu\n", name, (unsigned long)at, (unsigned long)is, (unsigned long)expected);
+    exit(1);
+}
+
+/* ---- reading ---- */
+
+/* A name, up to a space. Answers 0 at the end of input. */
+static int read_name(char *name)
+{
+    size_t n = 0;
+    int c = getchar();
+    while (c != EOF && isspace(c))
+        c = getchar();
+    for (; c != EOF && !isspace(c) && n < LONGEST_NAME; c = getchar())
+        name[n++] = (char)c;
+    name[n] = '\0';
+    return n != 0;
+}
+
+static uint32_t read_number(void)
+{
+    unsigned long v;
+    if (scanf("%lu", &v) != 1 || v > 4294967295u)
+        fail("a number is missing");
+    return (uint32_t)v;
+}
+
+/* A list of exactly so many numbers. */
+static void read_list(uint32_t *to, size_t length)
+{
+    if (read_number() != length)
+        fail("a list has another length than the call takes");
+    for (size_t i = 0; i < length; i++)
+        to[i] = read_number();
+}
+
+/* ---- the lent memory ---- */
+
+static unsigned char *lent(const struct part *p)
+{
+    return p->memory + EDGE;
+}
+
+static void put(const struct part *p, size_t i, uint32_t v)
+{
+    if (p->width == 1)
+        lent(p)[i] = (unsigned char)v;
+    else
+        memcpy(lent(p) + 4 * i, &v, 4);
+}
+
+static uint32_t get(const struct part *p, size_t i)
+{
+    uint32_t v = lent(p)[p->width * i];
+    if (p->width == 4)
+        memcpy(&v, lent(p) + 4 * i, 4);
+    return v;
+}
+
+/* Memory for a list that is read, between filled edges. */
+static void lend(struct part *p)
+{
+    p->length = read_number();
+    p->memory = malloc(2 * EDGE + p->width * p->length);
+    if (p->memory == NULL)
+        fail("no memory");
+    memset(p->memory, FILLED, 2 * EDGE + p->width * p->length);
+    for (size_t i = 0; i < p->length; i++)
+        put(p, i, read_number());
+}
+
+static void test_edges(const struct part *p)
+{
+    const unsigned char *behind = lent(p) + p->width * p->length;
+    for (size_t i = 0; i < EDGE; i++)
+        if (p->memory[i] != FILLED || behind[i] != FILLED) {
+            say_case();
+            printf(": it wrote beside the %s\n", p->name);
             exit(1);
         }
 }
 
-/* The heap of a case: its lengths and registers are in the first numbers, the buffers in those behind. Answers whether it is
-   one. */
-static int take_heap(const struct line *l, struct heap *h)
+/* The memory afterwards is that of the list that is read. It is given back. */
+static void compare(struct part *p)
 {
-    const uint32_t *x = l->numbers, *r = x + 6, *from = x + HEAD;
-    struct MACHINE(regs) regs = {0};
-    size_t i, lw, lc, lb;
-    if (l->count < HEAD || x[3] > WORDS || x[4] > COLOURS || x[5] > BYTES)
-        return 0;
-    lw = x[3], lc = x[4], lb = x[5];
-    if (l->count != HEAD + lw + lc + lb)
-        return 0;
-    for (i = 0; i < lb; i++)
-        if (from[lw + lc + i] > 255)
-            return 0;
-    for (i = 0; i < lw; i++)
-        words[EDGE + i] = from[i];
-    for (i = 0; i < lc; i++)
-        colours[EDGE + i] = from[lw + i];
-    for (i = 0; i < lb; i++)
-        bytes[EDGE + i] = (uint8_t)from[lw + lc + i];
-    regs.blocks = r[0], regs.pace = r[1], regs.phase = r[2], regs.grey = r[3], regs.free = r[4], regs.count = r[5];
-    regs.position = r[6], regs.root = r[7], regs.cycle = r[8];
-    h->regs = regs;
-    h->words = words + EDGE, h->colours = colours + EDGE, h->bytes = bytes + EDGE;
-    h->words_length = lw, h->colours_length = lc, h->bytes_length = lb;
-    return 1;
+    if (read_number() != p->length)
+        fail("a buffer has another length afterwards");
+    for (size_t i = 0; i < p->length; i++) {
+        uint32_t expected = read_number();
+        if (get(p, i) != expected)
+            differs(p->name, i, get(p, i), expected);
+    }
+    free(p->memory);
 }
 
-/* Whether the letter of a case asks for a call, and the numbers that it doesn't take are 0. */
-static int asks(const struct line *l)
+/* ---- a case ---- */
+
+static size_t perform(uint32_t *answer)
 {
-    int i = numbers_of(l->letter);
-    if (i < 0)
-        return 0;
-    for (; i < 3; i++)
-        if (l->numbers[i] != 0)
-            return 0;
-    return 1;
+    struct heap h;
+    h.regs = lent(&parts[0]);
+    h.words = (uint32_t *)(void *)lent(&parts[1]), h.words_length = parts[1].length;
+    h.colours = (uint32_t *)(void *)lent(&parts[2]), h.colours_length = parts[2].length;
+    h.bytes = lent(&parts[3]), h.bytes_length = parts[3].length;
+    h.out = (uint32_t *)(void *)lent(&parts[4]), h.out_length = parts[4].length;
+    return call->perform(&h, numbers, answer);
 }
 
-static void print(uint32_t n)
+static void compare_answer(const uint32_t *answer, size_t length)
 {
-    printf(" %u", (unsigned)n);
+    uint32_t expected[MOST_ANSWER];
+    read_list(expected, length);
+    for (size_t i = 0; i < length; i++)
+        if (answer[i] != expected[i])
+            differs("answer", i, answer[i], expected[i]);
 }
 
-/* The three numbers, and the whole heap. */
-static void print_heap(struct three t, const struct heap *h)
+static void do_case(void)
 {
-    const struct MACHINE(regs) *r = &h->regs;
-    size_t i;
-    printf("%u", (unsigned)t.first);
-    print(t.second), print(t.third);
-    print(r->blocks), print(r->pace), print(r->phase), print(r->grey), print(r->free), print(r->count);
-    print(r->position), print(r->root), print(r->cycle);
-    for (i = 0; i < h->words_length; i++)
-        print(h->words[i]);
-    for (i = 0; i < h->colours_length; i++)
-        print(h->colours[i]);
-    for (i = 0; i < h->bytes_length; i++)
-        print(h->bytes[i]);
-    printf("\n");
-}
-
-/* The call of a case, and what comes of it. */
-static void do_case(const struct line *l, struct heap *h)
-{
-    struct three t;
-    fill_edges(words, 4 * h->words_length, 4 * EDGE);
-    fill_edges(colours, 4 * h->colours_length, 4 * EDGE);
-    fill_edges(bytes, h->bytes_length, EDGE);
-    t = perform(h, l->letter, l->numbers);
-    test_edges("words", words, 4 * h->words_length, 4 * EDGE);
-    test_edges("colours", colours, 4 * h->colours_length, 4 * EDGE);
-    test_edges("bytes", bytes, h->bytes_length, EDGE);
-    print_heap(t, h);
+    uint32_t answer[MOST_ANSWER];
+    size_t length;
+    read_list(numbers, call->count);
+    for (size_t i = 0; i < PARTS; i++)
+        lend(&parts[i]);
+    if (parts[0].length != REGISTERS)
+        fail("a record has another number of registers");
+    length = perform(answer);
+    for (size_t i = 0; i < PARTS; i++)
+        test_edges(&parts[i]);
+    compare_answer(answer, length);
+    for (size_t i = 0; i < PARTS; i++)
+        compare(&parts[i]);
 }
 
 int main(void)
 {
-    static struct line l;
-    static struct heap h;
-    unsigned char text[LONGEST];
-    size_t length;
-    while (next_line(text, &length)) {
-        if (take_apart(text, length, LONGEST, &l) && take_heap(&l, &h) && asks(&l))
-            do_case(&l, &h);
-        else
-            printf("99 0 0\n");
+    static unsigned long seen[CALLS];
+    char name[LONGEST_NAME + 1];
+    for (; read_name(name); seen[call - calls]++) {
+        number++;
+        call = call_named(name);
+        if (call == NULL)
+            fail("there is no such call");
+        do_case();
     }
+    for (size_t i = 0; i < CALLS; i++)
+        if (seen[i] == 0) {
+            printf("there is no case of %s\n", calls[i].name);
+            return 1;
+        }
+    printf("%lu cases of %d calls, and no difference\n", number, (int)CALLS);
     return ferror(stdin) || fflush(stdout) != 0;
 }

@@ -6,14 +6,14 @@
 #include <stdint.h>
 #include <stdio.h>
 
-/* The longest line of any program here, and so many numbers as it can have at most. */
-enum { LONGEST = 1200, MOST_NUMBERS = LONGEST / 2 };
+/* The longest line, and so many numbers as one can have at most. */
+enum { LONGEST = 40, MOST_IN_LINE = LONGEST / 2 };
 
 /* What a line says: its letter, and its numbers. */
 struct line {
     int letter;
     size_t count;
-    uint32_t numbers[MOST_NUMBERS];
+    uint32_t numbers[MOST_IN_LINE];
 };
 
 /* The next line's bytes. A line ends at byte 10, which isn't counted in it, or at the end of input; nothing after the last
@@ -51,12 +51,11 @@ static size_t number_at(const unsigned char *text, size_t length, size_t at, uin
     return i;
 }
 
-/* Takes a line of at most `longest` bytes, itself at most LONGEST, apart: a letter, and after each single space a number.
-   Answers whether it is one. */
-static int take_apart(const unsigned char *text, size_t length, size_t longest, struct line *l)
+/* Takes a line apart: a letter, and after each single space a number. Answers whether it is one. */
+static int take_apart(const unsigned char *text, size_t length, struct line *l)
 {
     size_t at = 1;
-    if (length == 0 || length > longest)
+    if (length == 0 || length > LONGEST)
         return 0;
     l->letter = text[0];
     for (l->count = 0; at < length; l->count++) {

@@ -28,7 +28,7 @@ static uint32_t allocate(uint32_t b, uint32_t w)
 
 static void put(uint32_t b, uint32_t w, uint32_t v)
 {
-    value_of(dergamoyne_store_number(regs, LENT, b, w, v));
+    value_of(dergamoyne_store_number(&regs, LENT, b, w, v));
 }
 
 static void link_to(uint32_t b, uint32_t t)

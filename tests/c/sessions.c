@@ -3,43 +3,60 @@
 #include "machine.h"
 #include "lines.h"
 
-enum { MOST = 1024, LONGEST_LINE = 40 };
+enum { MOST = 1024 };
 
-/* The buffers of the largest heap. A heap of M blocks has the first 8M, M and M of them. */
+/* What a letter asks for, and which numbers of the answer are printed. */
+static const struct letter {
+    int letter;
+    const char *call;
+    int printed[3];
+} letters[] = {{'F', "format", {0, 1, 2}},       {'R', "read", {0, 1, 3}},     {'N', "store_number", {0, 1, 2}},
+               {'S', "store_reference", {0, 1, 2}}, {'T', "set_root", {0, 1, 2}}, {'A', "allocate", {0, 1, 2}},
+               {'W', "work", {0, 1, 2}},         {'C', "audit", {0, 1, 2}}};
+
+/* The heap, with the buffers of the largest: one of M blocks has the first 8M, M and M elements of them. */
+static struct MACHINE(regs) regs;
 static uint32_t words[8 * MOST], colours[MOST];
 static uint8_t bytes[MOST];
 
-/* Lends the parts that m blocks take; of a larger m all there is, which doesn't fit it, and so the call refuses. */
-static void lend(struct heap *h, uint32_t m)
+/* What is lent for m blocks; for a larger m all there is, which doesn't fit it, and so the call refuses. */
+static struct heap lent(uint32_t m)
 {
     size_t n = m < MOST ? m : MOST;
-    h->words_length = 8 * n;
-    h->colours_length = n;
-    h->bytes_length = n;
+    struct heap h = {&regs, words, colours, NULL, bytes, 8 * n, n, n, 0};
+    return h;
+}
+
+static const struct letter *letter_of(int c)
+{
+    for (size_t i = 0; i < sizeof letters / sizeof *letters; i++)
+        if (letters[i].letter == c)
+            return &letters[i];
+    return NULL;
 }
 
 /* One line. Before a first F that answers 0 the record is all zeroes: every call then refuses by 1, and the audit answers 0. */
-static struct three step(struct heap *h, const unsigned char *text, size_t length)
+static void step(const unsigned char *text, size_t length)
 {
-    static const struct three broken = {99, 0, 0};
     struct line l;
-    if (!take_apart(text, length, LONGEST_LINE, &l) || l.letter == 'L' || numbers_of(l.letter) != (int)l.count)
-        return broken;
-    lend(h, l.letter == 'F' ? l.numbers[0] : h->regs.blocks);
-    return perform(h, l.letter, l.numbers);
+    const struct letter *s = take_apart(text, length, &l) ? letter_of(l.letter) : NULL;
+    const struct call *c = s ? call_named(s->call) : NULL;
+    uint32_t a[MOST_ANSWER];
+    struct heap h;
+    if (c == NULL || c->count != l.count) {
+        printf("99 0 0\n");
+        return;
+    }
+    h = lent(l.letter == 'F' ? l.numbers[0] : regs.blocks);
+    c->perform(&h, l.numbers, a);
+    printf("%u %u %u\n", (unsigned)a[s->printed[0]], (unsigned)a[s->printed[1]], (unsigned)a[s->printed[2]]);
 }
 
 int main(void)
 {
-    static struct heap h;
     unsigned char text[LONGEST];
     size_t length;
-    h.words = words;
-    h.colours = colours;
-    h.bytes = bytes;
-    while (next_line(text, &length)) {
-        struct three t = step(&h, text, length);
-        printf("%u %u %u\n", (unsigned)t.first, (unsigned)t.second, (unsigned)t.third);
-    }
+    while (next_line(text, &length))
+        step(text, length);
     return ferror(stdin) || fflush(stdout) != 0;
 }

@@ -1,3 +1,3 @@
--- What the proofs of the calls that change no register share.
+-- Laws for the proofs of Look and of Store number.
 pub mod Looking
 pub mod Keeping

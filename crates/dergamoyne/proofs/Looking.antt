@@ -11,15 +11,16 @@ use Rattle.blocks.specs.Block.{base}
 use Rattle.blocks.specs.Heap.{Heap}
 use Rattle.blocks.specs.Read.{readRefusal, lookAt}
 use Rattle.blocks.proofs.Refusals.{readable}
+use Rattle.dergamoyne.specs.Host.{noIndex, lookIndex}
 
 module _ (h : Heap) (b : ℕ) {n : ℕ} (e : n ≡ readRefusal b 0 h) where
   pub word-0 : n ≡ 0 → (2 ≤ b) × (b ≤ 16385)
   word-0 z = let d = readable h b 0 (sym e ∙ z) in (omega arith, omega arith)
 
-  pub not-seen : n ≢ 0 → (n ≡ readRefusal b 0 h) × (0 ≡ lookAt b h)
-  unfolding lookAt
+  pub not-seen : n ≢ 0 → (n ≡ readRefusal b 0 h) × (4294967295 ≡ lookIndex b h)
+  unfolding lookIndex noIndex
   not-seen z = (e, simp (ne-eqb (readRefusal b 0 h) 0 (λ y. z (e ∙ y))))
 
-  pub seen : n ≡ 0 → (0 ≡ readRefusal b 0 h) × (base b ≡ lookAt b h)
-  unfolding lookAt
+  pub seen : n ≡ 0 → (0 ≡ readRefusal b 0 h) × (base b ≡ lookIndex b h)
+  unfolding lookIndex lookAt
   seen z = let q = sym e ∙ z in (sym q, simp (eq-eqb (readRefusal b 0 h) 0 q))

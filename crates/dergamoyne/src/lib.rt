@@ -1,5 +1,5 @@
-// The outer calls, for a host in C. Five change the registers: the host lends its one register record, and the call changes
-// it in place, over a core that takes the record by value and gives it back. Five change no register and take it by value.
+// The outer calls, for a host in C. Six write to the heap: the host lends its one register record, and the call changes it in
+// place, over a core that takes the record by value and gives it back. Four only look, and take the record by value.
 use blocks::Answer;
 use blocks::ReadAnswer;
 use blocks::Regs;
@@ -10,19 +10,36 @@ ghost use Rattle.blocks.specs.WellFormed.{WellFormed};
 ghost use Rattle.blocks.specs.Heap.{heap};
 ghost use Rattle.blocks.specs.Answers.{given};
 ghost use Rattle.blocks.specs.Format.{format};
-ghost use Rattle.blocks.specs.Read.{readRefusal, read, lookAt};
+ghost use Rattle.blocks.specs.Read.{readRefusal, read};
 ghost use Rattle.blocks.specs.Store.{storeNumber, storeReference, setRoot};
 ghost use Rattle.blocks.specs.Allocate.{allocate};
 ghost use Rattle.blocks.specs.Work.{work};
 ghost use Rattle.blocks.specs.Audit.{audit};
 ghost use Rattle.exporting.specs.Numbers.{exportNumbers};
+ghost use Rattle.dergamoyne.specs.Host.{lookIndex, version, recordSize};
 
-// What Look answers a host: the refusal of Read of word 0, or 0, and the index of the block's first word in the word buffer
-// (0 on a refusal).
+// What Look answers a host: the refusal of Read of word 0, or 0, and the index of the block's first word in the word buffer. On a
+// refusal that is 4,294,967,295, past the end of any word buffer, so that a read there faults and doesn't find another block.
 #[repr(C)]
 pub struct LookAnswer {
     pub refusal: u32,
     pub at: u32,
+}
+
+// The release of the library, as a number: 1,000,000 · major + 1,000 · minor + patch.
+#[no_mangle]
+pub extern "C" fn dergamoyne_version() -> u32
+    ensures { λ n. ⌜ n ≡ version ⌝ }
+{
+    1000
+}
+
+// How many bytes a register record takes in memory.
+#[no_mangle]
+pub extern "C" fn dergamoyne_record_size() -> u32
+    ensures { λ n. ⌜ n ≡ recordSize ⌝ }
+{
+    36
 }
 
 // Format (M, U), or refusal 1.
@@ -66,12 +83,15 @@ pub extern "C" fn dergamoyne_look(
     bytes: &[u8],
     b: u32,
 ) -> LookAnswer
-    ensures { λ x. ⌜ (x .refusal ≡ readRefusal b 0 (heap regs (now (words .entry)) (now (colours .entry)) (now (bytes .entry)))) × (x .at ≡ lookAt b (heap regs (now (words .entry)) (now (colours .entry)) (now (bytes .entry)))) ⌝ }
+    ensures { λ x. ⌜ (x .refusal ≡ readRefusal b 0 (heap regs (now (words .entry)) (now (colours .entry)) (now (bytes .entry)))) × (x .at ≡ lookIndex b (heap regs (now (words .entry)) (now (colours .entry)) (now (bytes .entry)))) ⌝ }
 {
     let e = checks::entry(regs, words, colours, bytes);
     let n = checks::read_refusal_after(e, regs, words, colours, bytes, b, 0);
     if n != 0 {
-        return LookAnswer { refusal: n, at: 0 };
+        return LookAnswer {
+            refusal: n,
+            at: 4294967295,
+        };
     }
     LookAnswer {
         refusal: 0,
@@ -79,10 +99,10 @@ pub extern "C" fn dergamoyne_look(
     }
 }
 
-// Store number: word w of the block b becomes the number v. The registers stay.
+// Store number: word w of the block b becomes the number v. No register changes, so none is written back.
 #[no_mangle]
 pub extern "C" fn dergamoyne_store_number(
-    regs: Regs,
+    regs: &mut Regs,
     words: &mut [u32],
     colours: &mut [u32],
     bytes: &mut [u8],
@@ -90,10 +110,10 @@ pub extern "C" fn dergamoyne_store_number(
     w: u32,
     v: u32,
 ) -> Answer
-    ensures { λ a. ⌜ given (record { regs = regs; answer = a }) (now (words .exit)) (now (colours .exit)) (now (bytes .exit)) ≡ storeNumber b w v (heap regs (now (words .entry)) (now (colours .entry)) (now (bytes .entry))) ⌝ }
+    ensures { λ a. ⌜ given (record { regs = now (regs .exit); answer = a }) (now (words .exit)) (now (colours .exit)) (now (bytes .exit)) ≡ storeNumber b w v (heap (now (regs .entry)) (now (words .entry)) (now (colours .entry)) (now (bytes .entry))) ⌝ }
 {
-    let o = storing::store_number(regs, words, colours, bytes, b, w, v);
-    o.answer
+    let stored = storing::store_number(*regs, words, colours, bytes, b, w, v);
+    stored.answer
 }
 
 // Store reference: word w of the block b becomes a reference to t, or the reference 0.

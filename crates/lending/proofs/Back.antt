@@ -3,6 +3,7 @@
 --     Back                     code that writes back, what it takes for granted of the registers before and after, and that the record is then the core's
 --     all                      *regs = o.regs
 --     only fs                  regs.f = o.regs.f, for each register f of fs.        taken fs s r     r with those registers of s
+--     nothing                  nothing at all, where the call changes no register
 -- In a context the record's cell, the core's outcome and the local with the record's address come first.
 -- Assumes `Given`.
 use mathlib.Core.Path.{_≡_, refl, sym, ap, subst, _∙_}
@@ -133,3 +134,6 @@ all k = record { code = whole-code k; Kept = λ r s. Unit {0}; writes = λ e p q
 
 abbrev pub only : List Register → (k : ℕ) → Back k
 only fs k = record { code = fields-code k fs; Kept = λ r s. taken fs s r ≡ s; writes = λ e p q is kept h. writes-only k p q is e fs kept h }
+
+abbrev pub nothing : (k : ℕ) → Back k
+nothing k = only [] k

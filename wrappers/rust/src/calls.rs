@@ -32,6 +32,8 @@ macro_rules! seeing {
 changing! {
     /// Format: a heap of m blocks, all free, at pace u. The lengths must be 8m, m and m.
     format = dergamoyne_format(m, u);
+    /// Store number: word w of the block b becomes the number v.
+    store_number = dergamoyne_store_number(b, w, v);
     /// Store reference: word w of the block b becomes a reference to t, or the reference 0.
     store_reference = dergamoyne_store_reference(b, w, t);
     /// Set root: the root becomes t, or none with 0.
@@ -51,23 +53,16 @@ seeing! {
     audit = dergamoyne_audit() -> Answer;
 }
 
-/// Store number: word w of the block b becomes the number v. The record stays.
-pub fn store_number(regs: Regs, words: &mut [u32], colours: &mut [u32], bytes: &mut [u8], b: u32, w: u32, v: u32) -> Answer {
-    // SAFETY: as above.
-    unsafe {
-        raw::dergamoyne_store_number(
-            regs,
-            words.as_mut_ptr(),
-            words.len(),
-            colours.as_mut_ptr(),
-            colours.len(),
-            bytes.as_mut_ptr(),
-            bytes.len(),
-            b,
-            w,
-            v,
-        )
-    }
+/// The version of the library that is linked: 1,000,000 for each major, 1,000 for each minor, 1 for each patch.
+pub fn version() -> u32 {
+    // SAFETY: it takes nothing and answers a number.
+    unsafe { raw::dergamoyne_version() }
+}
+
+/// Whether the library that is linked is the one that this crate is for: its version, and the size of its record.
+pub fn fits_library() -> bool {
+    // SAFETY: it takes nothing and answers a number.
+    version() == raw::VERSION && unsafe { raw::dergamoyne_record_size() } as usize == std::mem::size_of::<Regs>()
 }
 
 /// Export: the rows of the list that starts at the block start and goes on by the reference in word link, to out.

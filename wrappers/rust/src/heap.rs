@@ -48,11 +48,15 @@ pub enum Reason {
     Refused(Refusal),
     /// The link word of the next block holds a number.
     NoReference,
+    /// A reason, by its number, that this version doesn't know.
+    Unknown(u32),
 }
 
 impl Heap {
-    /// A heap of m blocks, 1 to 16,384, all free, at pace u, at most 65,535; else refusal 1.
+    /// A heap of m blocks, 1 to 16,384, all free, at pace u, at most 65,535; else refusal 1. Panics where the library that is
+    /// linked is of another version than this crate.
     pub fn new(m: u32, u: u32) -> Result<Heap, Refused> {
+        assert!(calls::fits_library(), "libdergamoyne.a is of another version than this crate");
         // Of an m that is too large nothing is lent: the call then refuses it.
         let n = if m <= MOST_BLOCKS { m as usize } else { 0 };
         let mut h = Heap { regs: Regs::default(), words: vec![0; 8 * n], colours: vec![0; n], bytes: vec![0; n] };
@@ -92,7 +96,7 @@ impl Heap {
 
     /// Word w of the block b becomes the number v.
     pub fn store_number(&mut self, b: u32, w: u32, v: u32) -> Result<(), Refused> {
-        done(self.changed(|r, ws, cs, bs| calls::store_number(*r, ws, cs, bs, b, w, v)))?;
+        done(self.changed(|r, ws, cs, bs| calls::store_number(r, ws, cs, bs, b, w, v)))?;
         Ok(())
     }
 
@@ -138,6 +142,24 @@ fn exported(a: ExportAnswer) -> Exported {
         (1, _) => Exported::Stopped(a.rows, Reason::Circle),
         (2, _) => Exported::Stopped(a.rows, Reason::NoRoom),
         (3, Some(refusal)) => Exported::Stopped(a.rows, Reason::Refused(refusal)),
-        _ => Exported::Stopped(a.rows, Reason::NoReference),
+        (4, _) => Exported::Stopped(a.rows, Reason::NoReference),
+        (other, _) => Exported::Stopped(a.rows, Reason::Unknown(other)),
+    }
+}
+
+#[cfg(test)]
+mod tests {
+    use super::*;
+
+    /// Each reason by its number; one that isn't known stays a stop, with its number.
+    #[test]
+    fn reasons() {
+        let of = |reason, refusal| exported(ExportAnswer { complete: 0, rows: 7, reason, refusal });
+        assert_eq!(of(1, 0), Exported::Stopped(7, Reason::Circle));
+        assert_eq!(of(2, 0), Exported::Stopped(7, Reason::NoRoom));
+        assert_eq!(of(3, 5), Exported::Stopped(7, Reason::Refused(Refusal::BlockGone)));
+        assert_eq!(of(4, 0), Exported::Stopped(7, Reason::NoReference));
+        assert_eq!(of(5, 0), Exported::Stopped(7, Reason::Unknown(5)));
+        assert_eq!(of(3, 0), Exported::Stopped(7, Reason::Unknown(3)));
     }
 }

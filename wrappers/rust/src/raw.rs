@@ -36,7 +36,7 @@ pub struct ReadAnswer {
     pub reference: u32,
 }
 
-/// What Look answers: a refusal number or 0, and the index in the words of the block's first word.
+/// What Look answers: a refusal number or 0, and the index in the words of the block's first word, `u32::MAX` on a refusal.
 #[repr(C)]
 #[derive(Clone, Copy, Debug, PartialEq, Eq)]
 pub struct LookAnswer {
@@ -54,10 +54,15 @@ pub struct ExportAnswer {
     pub refusal: u32,
 }
 
-// A size that is another here than in the library doesn't compile.
-const _: () = assert!(std::mem::size_of::<Regs>() == 36 && std::mem::size_of::<usize>() == 8);
+/// The version of the library that this crate is for, as `dergamoyne_version` gives it.
+pub const VERSION: u32 = 1000;
+
+// The library is for processors with lengths of 64 bits.
+const _: () = assert!(std::mem::size_of::<usize>() == 8);
 
 extern "C" {
+    pub fn dergamoyne_version() -> u32;
+    pub fn dergamoyne_record_size() -> u32;
     pub fn dergamoyne_format(
         regs: *mut Regs,
         words: *mut u32,
@@ -91,7 +96,7 @@ extern "C" {
         b: u32,
     ) -> LookAnswer;
     pub fn dergamoyne_store_number(
-        regs: Regs,
+        regs: *mut Regs,
         words: *mut u32,
         words_length: usize,
         colours: *mut u32,

@@ -78,7 +78,8 @@ fn damage() {
     let (mut regs, mut words, mut colours, mut bytes) = (Regs::default(), [0; 8], [0; 1], [0; 1]);
     assert_eq!(calls::format(&mut regs, &mut words, &mut colours, &mut bytes, 1, 1).refusal, 0);
     let wrong = Regs { phase: 3, ..regs };
-    assert_eq!(calls::look(wrong, &words, &colours, &bytes, 2).refusal, 2);
+    let refused = calls::look(wrong, &words, &colours, &bytes, 2);
+    assert_eq!((refused.refusal, refused.at), (2, u32::MAX));
     colours[0] = 4294967293;
     assert_eq!(calls::read(regs, &words, &colours, &bytes, 2, 0).refusal, 8);
     assert_eq!(calls::audit(regs, &words, &colours, &bytes).value, 0);
@@ -132,4 +133,11 @@ fn threads() {
         .collect();
     let ends: Vec<Regs> = runs.into_iter().map(|t| t.join().unwrap()).collect();
     assert!(ends.windows(2).all(|x| x[0] == x[1]));
+}
+
+/// The library is the one that the crate is for.
+#[test]
+fn version() {
+    assert_eq!(calls::version(), 1000);
+    assert!(calls::fits_library());
 }

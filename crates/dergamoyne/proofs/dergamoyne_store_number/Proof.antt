@@ -1,27 +1,16 @@
--- `dergamoyne::dergamoyne_store_number` meets its contract: the core's, and that it keeps the registers. Assumes nothing.
-use mathlib.Core.Path.{refl}
-use borrow.Author.Needs.{needs}
+-- `dergamoyne::dergamoyne_store_number` meets its contract: the law of the outer calls, over `storing::store_number`. Assumes nothing.
+use Rattle.blocks.specs.Store.{storeNumber}
+use Rattle.storing.proofs.store_number.Symbol as core
+use Rattle.storing.proofs.store_number.Met as core-thm
+use Rattle.lending.proofs.Back.{nothing}
+use Rattle.lending.proofs.Outer.{lends}
 use Rattle.dergamoyne.proofs.Keeping.{number-keeps}
+use Rattle.dergamoyne.proofs.dergamoyne_store_number.Key.{name}
 use Rattle.dergamoyne.proofs.dergamoyne_store_number.Statement.{statement}
-use Rattle.dergamoyne.proofs.dergamoyne_store_number.Tie as tie
-
-store-number-requires : tie.Need-store-number-requires
-store-number-requires c κs = tt
-
-same-length : tie.Need-same-length
-same-length c = search needs
-
-same-length-2 : tie.Need-same-length-2
-same-length-2 c = search needs
-
-same-length-3 : tie.Need-same-length-3
-same-length-3 c = search needs
-
-returns : tie.Need-returns
-returns c =
-    let c-store-number = c .before .before .before .before .before .before .before .store-number in
-    number-keeps _ _ _ _ (c-store-number .ensures)
+use Rattle.dergamoyne.proofs.dergamoyne_store_number.Code as code
 
 pub dergamoyne-store-number-spec : {M : Type 1} → statement M
-dergamoyne-store-number-spec =
-    tie.close (tie.spec store-number-requires same-length same-length-2 same-length-3 returns)
+unfolding code.routine
+dergamoyne-store-number-spec 𝓤 H 𝓜 𝓖 𝓡 =
+    lends 3 (λ m. storeNumber (m .0) (m .1 .0) (m .1 .1 .0)) (nothing 3) (λ m h. number-keeps (m .0) (m .1 .0) (m .1 .1 .0) h) core.name 𝓤 H 𝓜 𝓖 𝓡 code.env name (code.unfolded 𝓤 H 𝓜 𝓡)
+    core.routine code.calls-storing·store-number (core-thm.met 𝓤 H 𝓜 𝓖 𝓡)

@@ -1,0 +1,47 @@
+# make            proves the library and makes the archive target/staticlib/libdergamoyne.a (minutes, the first time)
+# make check      tests it from C
+# make example    builds examples/c/list.c to target/c/list and runs it
+# make install    puts headers, archive, pkg-config file and manual page under PREFIX (by default /usr/local), below DESTDIR where one is
+#                 given
+# make uninstall  takes them away again
+# The gate, which proves and tests everything, is .ci/run.
+PREFIX ?= /usr/local
+INCLUDEDIR ?= $(PREFIX)/include
+LIBDIR ?= $(PREFIX)/lib
+MANDIR ?= $(PREFIX)/share/man
+INSTALL ?= install
+
+archive = target/staticlib/libdergamoyne.a
+version = $(shell sed -n 's/^.define DERGAMOYNE_VERSION_TEXT "\(.*\)"/\1/p' include/dergamoyne.h)
+sources = $(shell find crates -name '*.rt' -o -name '*.antt')
+
+all: $(archive)
+
+$(archive): $(sources)
+	rt staticlib dergamoyne
+	touch $@
+
+check: $(archive)
+	bash tests/c/run
+
+example: $(archive)
+	bash examples/c/run
+
+target/dergamoyne.pc: docs/dergamoyne.pc.in include/dergamoyne.h Makefile
+	mkdir -p target
+	sed -e 's|@PREFIX@|$(PREFIX)|' -e 's|@INCLUDEDIR@|$(INCLUDEDIR)|' -e 's|@LIBDIR@|$(LIBDIR)|' -e 's|@VERSION@|$(version)|' $< >$@
+
+install: $(archive)
+	rm -f target/dergamoyne.pc
+	$(MAKE) target/dergamoyne.pc
+	$(INSTALL) -d $(DESTDIR)$(INCLUDEDIR) $(DESTDIR)$(LIBDIR)/pkgconfig $(DESTDIR)$(MANDIR)/man3
+	$(INSTALL) -m 644 include/dergamoyne.h include/dergamoyne_heap.h $(DESTDIR)$(INCLUDEDIR)
+	$(INSTALL) -m 644 $(archive) $(DESTDIR)$(LIBDIR)
+	$(INSTALL) -m 644 target/dergamoyne.pc $(DESTDIR)$(LIBDIR)/pkgconfig
+	$(INSTALL) -m 644 docs/dergamoyne.3 $(DESTDIR)$(MANDIR)/man3
+
+uninstall:
+	rm -f $(DESTDIR)$(INCLUDEDIR)/dergamoyne.h $(DESTDIR)$(INCLUDEDIR)/dergamoyne_heap.h $(DESTDIR)$(LIBDIR)/libdergamoyne.a \
+	    $(DESTDIR)$(LIBDIR)/pkgconfig/dergamoyne.pc $(DESTDIR)$(MANDIR)/man3/dergamoyne.3
+
+.PHONY: all check example install uninstall

@@ -1,0 +1,433 @@
+/* Dergamoyne in one struct: the calls of dergamoyne.h over a heap that has its record and its buffers together, hard to misuse.
+   For C99 and C++. Everything here is static inline, and there is no state but the struct. MIT licence, see LICENSE.
+
+       struct dergamoyne_heap heap;
+       uint32_t first, second, number;
+       if (dergamoyne_heap_open(&heap, 1000, 10)                       1,000 blocks, 10 units of collection in each allocation
+           || dergamoyne_heap_new_root(&heap, &first)                  a block, held by the root
+           || dergamoyne_heap_new_block(&heap, first, 0, &second)      a block, held by word 0 of the first
+           || dergamoyne_heap_store_number(&heap, second, 1, 42)
+           || dergamoyne_heap_read_number(&heap, second, 1, &number))
+           ..                                                          one of them was refused
+       dergamoyne_heap_close(&heap);
+
+   dergamoyne.h explains the terms (block, word, reference, root, unit), what is promised, and what you have to ensure.
+   examples/c/list.c is a program that uses most of this.
+
+   HOW IT GUARDS AGAINST MISTAKES
+
+   - A function that can be refused returns the refusal, or 0 (DERGAMOYNE_DONE). The compiler warns if you ignore it. Results go
+     to out parameters, which a refusal leaves alone.
+   - A 0 can't be taken for a block. There are separate functions for a new root and a new block, for a reference and the null
+     reference, for setting the root and clearing it; a holder 0 is refused by 3, a target 0 by 4.
+   - An export that is not complete does not tell a number of rows.
+   - Opening a heap tests that this header and the library are of the same version. */
+#ifndef DERGAMOYNE_HEAP_H
+#define DERGAMOYNE_HEAP_H
+
+#include "dergamoyne.h"
+#include <stdlib.h>
+#include <string.h>
+
+/* A heap: its record, its buffers with their lengths, and the memory that it owns, NULL where it was lent. Leave the fields to
+   the functions below, and don't go on with a copy beside the original: the two records would be of the same buffers. */
+struct dergamoyne_heap {
+    struct dergamoyne_regs regs;
+    uint32_t *words, *colours;
+    uint8_t *bytes;
+    size_t words_length, colours_length, bytes_length;
+    void *memory;
+};
+
+/* What the collector is doing. */
+enum dergamoyne_phase { DERGAMOYNE_IDLE = 0, DERGAMOYNE_MARKING = 1, DERGAMOYNE_SWEEPING = 2 };
+
+#define DERGAMOYNE_REFUSABLE DERGAMOYNE_MUST_USE static inline enum dergamoyne_refusal
+#define DERGAMOYNE_LENT h->words, h->words_length, h->colours, h->colours_length, h->bytes, h->bytes_length
+
+
+/* IN WORDS: of a refusal, and of an export's reason. */
+
+static inline const char *dergamoyne_refusal_text(uint32_t refusal)
+{
+    switch (refusal) {
+    case DERGAMOYNE_DONE:
+        return "done";
+    case DERGAMOYNE_DOES_NOT_FIT:
+        return "the number of blocks, the pace or the length of a buffer does not fit";
+    case DERGAMOYNE_REGISTERS:
+        return "the register record is not legal";
+    case DERGAMOYNE_NO_SUCH_WORD:
+        return "there is no such block or word";
+    case DERGAMOYNE_NO_SUCH_TARGET:
+        return "there is no such target";
+    case DERGAMOYNE_BLOCK_GONE:
+        return "the block is free or about to be freed";
+    case DERGAMOYNE_TARGET_GONE:
+        return "the target is free or about to be freed";
+    case DERGAMOYNE_NO_FREE_BLOCK:
+        return "no block is free";
+    case DERGAMOYNE_DAMAGE:
+        return "the heap is damaged";
+    case DERGAMOYNE_TOO_MANY_UNITS:
+        return "too many units for one call";
+    case DERGAMOYNE_NOT_A_NUMBER:
+        return "the word holds a reference";
+    case DERGAMOYNE_NOT_A_REFERENCE:
+        return "the word holds a number";
+    case DERGAMOYNE_NO_MEMORY:
+        return "there is no memory for the heap";
+    case DERGAMOYNE_OTHER_VERSION:
+        return "the library is of another version than the header";
+    default:
+        return "a refusal that this version does not know";
+    }
+}
+
+static inline const char *dergamoyne_reason_text(uint32_t reason)
+{
+    switch (reason) {
+    case DERGAMOYNE_COMPLETE:
+        return "complete";
+    case DERGAMOYNE_CIRCLE:
+        return "the list runs in a circle";
+    case DERGAMOYNE_NO_ROOM:
+        return "the next row does not fit the buffer";
+    case DERGAMOYNE_REFUSED:
+        return "the next block can't be read";
+    case DERGAMOYNE_NO_REFERENCE:
+        return "the link of the next block is a number";
+    default:
+        return "a reason that this version does not know";
+    }
+}
+
+
+/* OPENING AND CLOSING */
+
+/* No heap: every call on it is refused by 1. Its pointers are not null, since the library takes none that are. */
+static inline void dergamoyne_heap_none(struct dergamoyne_heap *h)
+{
+    memset(h, 0, sizeof *h);
+    h->words = h->colours = &h->regs.blocks;
+    h->bytes = (uint8_t *)&h->regs;
+}
+
+/* Refused by 101 unless this header and the library are of the same version. */
+DERGAMOYNE_REFUSABLE dergamoyne_heap_version_(void)
+{
+    if (dergamoyne_version() != DERGAMOYNE_VERSION || dergamoyne_record_size() != sizeof(struct dergamoyne_regs))
+        return DERGAMOYNE_OTHER_VERSION;
+    return DERGAMOYNE_DONE;
+}
+
+/* The heap of this record, in these buffers. */
+static inline void dergamoyne_heap_place_(struct dergamoyne_heap *h, struct dergamoyne_regs regs, uint32_t *words,
+                                          size_t words_length, uint32_t *colours, size_t colours_length, uint8_t *bytes,
+                                          size_t bytes_length)
+{
+    h->regs = regs;
+    h->words = words, h->words_length = words_length;
+    h->colours = colours, h->colours_length = colours_length;
+    h->bytes = bytes, h->bytes_length = bytes_length;
+}
+
+/* A heap of so many blocks in memory of yours, all blocks free. Each length counts elements: 8 * blocks, blocks and blocks.
+   The memory must remain while the heap is used. Refusals: 1, 101. */
+DERGAMOYNE_REFUSABLE dergamoyne_heap_lend(struct dergamoyne_heap *h, uint32_t blocks, uint32_t pace, uint32_t *words,
+                                          size_t words_length, uint32_t *colours, size_t colours_length, uint8_t *bytes,
+                                          size_t bytes_length)
+{
+    struct dergamoyne_regs regs;
+    struct dergamoyne_answer a;
+    dergamoyne_heap_none(h);
+    memset(&regs, 0, sizeof regs);
+    if (dergamoyne_heap_version_() != DERGAMOYNE_DONE)
+        return DERGAMOYNE_OTHER_VERSION;
+    a = dergamoyne_format(&regs, words, words_length, colours, colours_length, bytes, bytes_length, blocks, pace);
+    if (a.refusal == DERGAMOYNE_DONE)
+        dergamoyne_heap_place_(h, regs, words, words_length, colours, colours_length, bytes, bytes_length);
+    return (enum dergamoyne_refusal)a.refusal;
+}
+
+/* A heap of 1 to 16,384 blocks that owns its memory, 37 bytes a block; the pace is 0 to 65,535. Close it when done; one that
+   was refused need not be closed. Refusals: 1, 100, 101. */
+DERGAMOYNE_REFUSABLE dergamoyne_heap_open(struct dergamoyne_heap *h, uint32_t blocks, uint32_t pace)
+{
+    enum dergamoyne_refusal refusal;
+    uint32_t *memory;
+    dergamoyne_heap_none(h);
+    if (blocks == 0 || blocks > DERGAMOYNE_MOST_BLOCKS || pace > DERGAMOYNE_MOST_PACE)
+        return DERGAMOYNE_DOES_NOT_FIT;
+    memory = (uint32_t *)calloc(blocks, 37);
+    if (memory == NULL)
+        return DERGAMOYNE_NO_MEMORY;
+    refusal = dergamoyne_heap_lend(h, blocks, pace, memory, 8 * (size_t)blocks, memory + 8 * (size_t)blocks, blocks,
+                                   (uint8_t *)(memory + 9 * (size_t)blocks), blocks);
+    if (refusal != DERGAMOYNE_DONE)
+        free(memory);
+    else
+        h->memory = memory;
+    return refusal;
+}
+
+/* Gives back what the heap owns. */
+static inline void dergamoyne_heap_close(struct dergamoyne_heap *h)
+{
+    free(h->memory);
+    dergamoyne_heap_none(h);
+}
+
+
+/* NEW BLOCKS. Each first does the collector's units. Refusals: 1, 2, 3; 8, 5, 7. After 7 nothing that you hold was lost: see
+   docs/TROUBLE.md. */
+
+/* Allocate with these numbers; the block goes to *block where it isn't refused. */
+DERGAMOYNE_REFUSABLE dergamoyne_heap_allocate_(struct dergamoyne_heap *h, uint32_t holder, uint32_t word, uint32_t *block)
+{
+    struct dergamoyne_answer a = dergamoyne_allocate(&h->regs, DERGAMOYNE_LENT, holder, word);
+    if (a.refusal == DERGAMOYNE_DONE)
+        *block = a.value;
+    return (enum dergamoyne_refusal)a.refusal;
+}
+
+/* A new block that is the root. What only the old root reached is let go. */
+DERGAMOYNE_REFUSABLE dergamoyne_heap_new_root(struct dergamoyne_heap *h, uint32_t *block)
+{
+    return dergamoyne_heap_allocate_(h, 0, 0, block);
+}
+
+/* A new block, held by a reference in word `word` of the block `holder`. */
+DERGAMOYNE_REFUSABLE dergamoyne_heap_new_block(struct dergamoyne_heap *h, uint32_t holder, uint32_t word, uint32_t *block)
+{
+    return holder == 0 ? DERGAMOYNE_NO_SUCH_WORD : dergamoyne_heap_allocate_(h, holder, word, block);
+}
+
+
+/* WORDS. Refusals: 1, 2, 3, 8, 5; of a target besides 4, 6. */
+
+/* The value of a word, and whether it is a reference: 1 or 0. */
+DERGAMOYNE_REFUSABLE dergamoyne_heap_read(const struct dergamoyne_heap *h, uint32_t block, uint32_t word, uint32_t *value,
+                                          int *reference)
+{
+    struct dergamoyne_read_answer a = dergamoyne_read(h->regs, DERGAMOYNE_LENT, block, word);
+    if (a.refusal == DERGAMOYNE_DONE) {
+        *value = a.value;
+        *reference = (int)a.reference;
+    }
+    return (enum dergamoyne_refusal)a.refusal;
+}
+
+/* A number. Refused by 102 where the word holds a reference. */
+DERGAMOYNE_REFUSABLE dergamoyne_heap_read_number(const struct dergamoyne_heap *h, uint32_t block, uint32_t word,
+                                                 uint32_t *number)
+{
+    struct dergamoyne_read_answer a = dergamoyne_read(h->regs, DERGAMOYNE_LENT, block, word);
+    if (a.refusal != DERGAMOYNE_DONE)
+        return (enum dergamoyne_refusal)a.refusal;
+    if (a.reference)
+        return DERGAMOYNE_NOT_A_NUMBER;
+    *number = a.value;
+    return DERGAMOYNE_DONE;
+}
+
+/* The block that a reference names, 0 for the null reference. Refused by 103 where the word holds a number. */
+DERGAMOYNE_REFUSABLE dergamoyne_heap_read_reference(const struct dergamoyne_heap *h, uint32_t block, uint32_t word,
+                                                    uint32_t *target)
+{
+    struct dergamoyne_read_answer a = dergamoyne_read(h->regs, DERGAMOYNE_LENT, block, word);
+    if (a.refusal != DERGAMOYNE_DONE)
+        return (enum dergamoyne_refusal)a.refusal;
+    if (!a.reference)
+        return DERGAMOYNE_NOT_A_REFERENCE;
+    *target = a.value;
+    return DERGAMOYNE_DONE;
+}
+
+/* The eight words of a block themselves, to be read and not written, until the next call that changes the heap. */
+DERGAMOYNE_REFUSABLE dergamoyne_heap_look(const struct dergamoyne_heap *h, uint32_t block, const uint32_t **words)
+{
+    struct dergamoyne_look_answer a = dergamoyne_look(h->regs, DERGAMOYNE_LENT, block);
+    if (a.refusal == DERGAMOYNE_DONE)
+        *words = h->words + a.at;
+    return (enum dergamoyne_refusal)a.refusal;
+}
+
+DERGAMOYNE_REFUSABLE dergamoyne_heap_store_number(struct dergamoyne_heap *h, uint32_t block, uint32_t word, uint32_t number)
+{
+    return (enum dergamoyne_refusal)dergamoyne_store_number(&h->regs, DERGAMOYNE_LENT, block, word, number).refusal;
+}
+
+/* The word becomes a reference to the block `target`. */
+DERGAMOYNE_REFUSABLE dergamoyne_heap_store_reference(struct dergamoyne_heap *h, uint32_t block, uint32_t word, uint32_t target)
+{
+    if (target == 0)
+        return DERGAMOYNE_NO_SUCH_TARGET;
+    return (enum dergamoyne_refusal)dergamoyne_store_reference(&h->regs, DERGAMOYNE_LENT, block, word, target).refusal;
+}
+
+/* The word becomes the null reference, which ends a list. */
+DERGAMOYNE_REFUSABLE dergamoyne_heap_store_null(struct dergamoyne_heap *h, uint32_t block, uint32_t word)
+{
+    return (enum dergamoyne_refusal)dergamoyne_store_reference(&h->regs, DERGAMOYNE_LENT, block, word, 0).refusal;
+}
+
+/* The block `target` becomes the root. What only the old root reached is let go. */
+DERGAMOYNE_REFUSABLE dergamoyne_heap_set_root(struct dergamoyne_heap *h, uint32_t target)
+{
+    if (target == 0)
+        return DERGAMOYNE_NO_SUCH_TARGET;
+    return (enum dergamoyne_refusal)dergamoyne_set_root(&h->regs, DERGAMOYNE_LENT, target).refusal;
+}
+
+/* No root any more: everything is let go. */
+DERGAMOYNE_REFUSABLE dergamoyne_heap_clear_root(struct dergamoyne_heap *h)
+{
+    return (enum dergamoyne_refusal)dergamoyne_set_root(&h->regs, DERGAMOYNE_LENT, 0).refusal;
+}
+
+
+/* LISTS. A list is blocks that each name the next in the same word, `link`; the null reference ends it. */
+
+/* A new block whose word `link` is the null reference, so that it is a list of one row: as the root. */
+DERGAMOYNE_REFUSABLE dergamoyne_heap_first_row(struct dergamoyne_heap *h, uint32_t link, uint32_t *row)
+{
+    enum dergamoyne_refusal refusal = DERGAMOYNE_NO_SUCH_WORD;
+    uint32_t block = 0;
+    if (link < DERGAMOYNE_BLOCK_WORDS)
+        refusal = dergamoyne_heap_new_root(h, &block);
+    if (refusal == DERGAMOYNE_DONE)
+        refusal = dergamoyne_heap_store_null(h, block, link);
+    if (refusal == DERGAMOYNE_DONE)
+        *row = block;
+    return refusal;
+}
+
+/* The same, held by word `word` of the block `holder`: with the last row and its link word it is the list's next row. */
+DERGAMOYNE_REFUSABLE dergamoyne_heap_new_row(struct dergamoyne_heap *h, uint32_t holder, uint32_t word, uint32_t link,
+                                             uint32_t *row)
+{
+    enum dergamoyne_refusal refusal = DERGAMOYNE_NO_SUCH_WORD;
+    uint32_t block = 0;
+    if (link < DERGAMOYNE_BLOCK_WORDS)
+        refusal = dergamoyne_heap_new_block(h, holder, word, &block);
+    if (refusal == DERGAMOYNE_DONE)
+        refusal = dergamoyne_heap_store_null(h, block, link);
+    if (refusal == DERGAMOYNE_DONE)
+        *row = block;
+    return refusal;
+}
+
+/* The rows of the list from the block `start` on, where 0 is the empty list, to `out`, which has room for so many. Returns
+   DERGAMOYNE_COMPLETE, and then *rows is how many there are. Else the list is not complete, the reason is returned, and *rows is
+   left alone; *details, which may be NULL, has the rows that were written before it stopped, and Read's refusal with
+   DERGAMOYNE_REFUSED. */
+DERGAMOYNE_MUST_USE static inline enum dergamoyne_reason
+dergamoyne_heap_export(const struct dergamoyne_heap *h, uint32_t start, uint32_t link, uint32_t (*out)[DERGAMOYNE_BLOCK_WORDS],
+                       size_t room, uint32_t *rows, struct dergamoyne_export_answer *details)
+{
+    uint32_t none = 0;
+    uint32_t *words = room == 0 ? &none : &out[0][0];
+    struct dergamoyne_export_answer a =
+        dergamoyne_export(h->regs, DERGAMOYNE_LENT, words, DERGAMOYNE_BLOCK_WORDS * room, start, link);
+    if (details != NULL)
+        *details = a;
+    if (a.reason == DERGAMOYNE_COMPLETE)
+        *rows = a.rows;
+    return (enum dergamoyne_reason)a.reason;
+}
+
+
+/* THE COLLECTOR */
+
+/* So many units, at most 65,535. Refusals: 1, 2, 9; 8. */
+DERGAMOYNE_REFUSABLE dergamoyne_heap_work(struct dergamoyne_heap *h, uint32_t units)
+{
+    return (enum dergamoyne_refusal)dergamoyne_work(&h->regs, DERGAMOYNE_LENT, units).refusal;
+}
+
+/* Frees everything that can't be reached: the cycle that runs is ended, and then a whole one is done. Its cost goes with the
+   number of blocks. Refusals: 1, 2; 8. */
+DERGAMOYNE_REFUSABLE dergamoyne_heap_collect(struct dergamoyne_heap *h)
+{
+    uint32_t cycle = h->regs.blocks <= DERGAMOYNE_MOST_BLOCKS ? 2 * h->regs.blocks + 2 : 0;
+    enum dergamoyne_refusal refusal = dergamoyne_heap_work(h, cycle);
+    return refusal == DERGAMOYNE_DONE ? dergamoyne_heap_work(h, cycle) : refusal;
+}
+
+
+/* HOW IT STANDS */
+
+static inline uint32_t dergamoyne_heap_blocks(const struct dergamoyne_heap *h)
+{
+    return h->regs.blocks;
+}
+
+static inline uint32_t dergamoyne_heap_free_blocks(const struct dergamoyne_heap *h)
+{
+    return h->regs.count;
+}
+
+/* Those that are reached, and those that wait to be freed. */
+static inline uint32_t dergamoyne_heap_allocated_blocks(const struct dergamoyne_heap *h)
+{
+    return h->regs.blocks - h->regs.count;
+}
+
+/* 0 where there is none. */
+static inline uint32_t dergamoyne_heap_root(const struct dergamoyne_heap *h)
+{
+    return h->regs.root;
+}
+
+static inline enum dergamoyne_phase dergamoyne_heap_phase(const struct dergamoyne_heap *h)
+{
+    return (enum dergamoyne_phase)h->regs.phase;
+}
+
+/* How many cycles of the collector were begun; after 4,294,967,295 comes 0. */
+static inline uint32_t dergamoyne_heap_cycles(const struct dergamoyne_heap *h)
+{
+    return h->regs.cycle;
+}
+
+/* Tests the whole heap; its cost goes with the number of blocks. Returns 0 for a well-formed heap; 1 where the number of blocks,
+   the pace or a length doesn't fit, which may be a length in bytes for one in elements; 2 where a register is wrong; 8 where the
+   contents of the buffers are, or the registers don't suit them. */
+DERGAMOYNE_MUST_USE static inline enum dergamoyne_refusal
+dergamoyne_check(struct dergamoyne_regs regs, const uint32_t *words, size_t words_length, const uint32_t *colours,
+                 size_t colours_length, const uint8_t *bytes, size_t bytes_length)
+{
+    struct dergamoyne_read_answer a;
+    if (dergamoyne_audit(regs, words, words_length, colours, colours_length, bytes, bytes_length).value == 1)
+        return DERGAMOYNE_DONE;
+    a = dergamoyne_read(regs, words, words_length, colours, colours_length, bytes, bytes_length, 2, 0);
+    if (a.refusal == DERGAMOYNE_DOES_NOT_FIT || a.refusal == DERGAMOYNE_REGISTERS)
+        return (enum dergamoyne_refusal)a.refusal;
+    return DERGAMOYNE_DAMAGE;
+}
+
+DERGAMOYNE_REFUSABLE dergamoyne_heap_check(const struct dergamoyne_heap *h)
+{
+    return dergamoyne_check(h->regs, DERGAMOYNE_LENT);
+}
+
+/* A heap that was saved: `regs` is the record of the heap that it was, and the buffers, in memory of yours, have its contents. It
+   is tested first, as by dergamoyne_check. Refusals: 1, 2, 8, 101. */
+DERGAMOYNE_REFUSABLE dergamoyne_heap_resume(struct dergamoyne_heap *h, struct dergamoyne_regs regs, uint32_t *words,
+                                            size_t words_length, uint32_t *colours, size_t colours_length, uint8_t *bytes,
+                                            size_t bytes_length)
+{
+    enum dergamoyne_refusal refusal = dergamoyne_heap_version_();
+    dergamoyne_heap_none(h);
+    if (refusal == DERGAMOYNE_DONE)
+        refusal = dergamoyne_check(regs, words, words_length, colours, colours_length, bytes, bytes_length);
+    if (refusal == DERGAMOYNE_DONE)
+        dergamoyne_heap_place_(h, regs, words, words_length, colours, colours_length, bytes, bytes_length);
+    return refusal;
+}
+
+#undef DERGAMOYNE_REFUSABLE
+#undef DERGAMOYNE_LENT
+
+#endif

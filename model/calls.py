@@ -1,0 +1,154 @@
+"""Cases of the exported calls with what comes of them, for tests/c/cases.c.
+
+python3 model/calls.py prints those stored in tests/c/cases.txt;
+python3 model/calls.py SEED COUNT prints COUNT * 30 drawn from SEED.
+
+A case is two lines, before the call and after it:
+
+  NAME <numbers> <registers> <words> <colours> <bytes> <out>
+  <answer> <registers> <words> <colours> <bytes> <out>
+
+Each <list> is its length and then its numbers. The answer has its numbers in
+the order of its struct in include/dergamoyne.h. `out` is the further buffer of
+a call that takes one, else of length 0. A new call is a line of CALLS.
+"""
+
+import random
+import sys
+
+import damage
+import draw
+import exports
+import machine
+import probe
+
+TOP = 4294967295
+
+
+def look(h, out, block):
+    """The refusal of Read of word 0, and the index of the block's words in the
+    word buffer; 4,294,967,295 on a refusal."""
+    part = machine.look(h, block)
+    return machine.read(h, block, 0)[0], part[0] if len(part) else TOP
+
+
+def read(h, out, block, word):
+    refusal, value, units, reference = machine.read(h, block, word)
+    return refusal, value, units, 1 if reference else 0
+
+
+def plain(call):
+    """A call that takes no further buffer."""
+    return lambda h, out, *numbers: call(h, *numbers)
+
+
+CALLS = {
+    "format": plain(machine.format),
+    "read": read,
+    "look": look,
+    "store_number": plain(machine.store_number),
+    "store_reference": plain(machine.store_reference),
+    "set_root": plain(machine.set_root),
+    "allocate": plain(machine.allocate),
+    "work": plain(machine.work),
+    "audit": plain(machine.audit),
+    "export": exports.export,
+}
+
+# The letters by which heapprobe's cases name the calls of document 01.
+LETTERS = {"F": "format", "R": "read", "L": "look", "N": "store_number", "S": "store_reference",
+           "T": "set_root", "A": "allocate", "W": "work", "C": "audit"}
+
+
+def listed(*lists):
+    return " ".join(" ".join(map(str, [len(numbers), *numbers])) for numbers in lists)
+
+
+def everything(h, out):
+    return machine.registers(h), h.words, h.colours, h.bytes, out
+
+
+def case(name, numbers, h, out=()):
+    """The two lines of a case. The heap is left as it was."""
+    h, out = machine.copy(h), list(out)
+    before = f"{name} {listed(numbers, *everything(h, out))}"
+    answer = CALLS[name](h, out, *numbers)
+    return f"{before}\n{listed(answer, *everything(h, out))}\n"
+
+
+# -------------------------------------------------------------------- exports
+
+def buffer(rng, M):
+    """A buffer for an export on M blocks: as a rule long enough, often just."""
+    rows = M if draw.chance(rng, 0.5) else draw.below(rng, M + 2)
+    length = max(0, 8 * rows + draw.one_of(rng, [0, 0, 0, -1, 1, 7]))
+    return [draw.below(rng, 1000) for _ in range(length)]
+
+
+def link_up(rng, h, blocks, link):
+    """A list of these blocks; its last link is 0 as a rule, else any block, or
+    stays what it was."""
+    last = draw.one_of(rng, [0, 0, 0, draw.one_of(rng, blocks), None])
+    for block, following in zip(blocks, [*blocks[1:], last]):
+        if following is not None:
+            machine.store_reference(h, block, link, following)
+        for word in {*range(8)} - {link}:
+            if draw.chance(rng, 0.3):
+                machine.store_number(h, block, word, draw.small_number(rng, h.M))
+
+
+def export_case(rng):
+    """A list over some allocated blocks of a heap reached by calls, with no
+    field damaged or one, and an export of it from its start or elsewhere."""
+    h = draw.reached_heaps(rng, 1)[0]
+    link = draw.one_of(rng, [0, 0, 1, 7])
+    found = [b for b in range(2, h.M + 2) if machine.read(h, b, 0)[0] == 0]
+    start = 0
+    if found:
+        blocks = draw.shuffled(rng, found)[:1 + draw.below(rng, len(found))]
+        link_up(rng, h, blocks, link)
+        start = blocks[0]
+    if draw.chance(rng, 0.3):
+        draw.damage(rng, h)
+    if draw.chance(rng, 0.15):
+        start = draw.small_number(rng, h.M)
+    if draw.chance(rng, 0.05):
+        link = draw.one_of(rng, [2, 8, TOP])
+    return case("export", [start, link], h, buffer(rng, h.M if h.M < 9 else 8))
+
+
+# ------------------------------------------------------------------ all of it
+
+def drawn(rng, count):
+    """Twenty of heapprobe's cases and ten exports, so many times."""
+    for _ in range(count):
+        for line in draw.twenty_cases(rng):
+            found = probe.case_of(line)
+            if found:
+                yield case(LETTERS[found[0]], found[1], found[2])
+        for _ in range(10):
+            yield export_case(rng)
+
+
+def stored():
+    """Those worked out by hand, and a few drawn."""
+    for _, letter, numbers, h, _ in damage.cases():
+        yield case(LETTERS[letter], numbers, h)
+    for _, h, room, start, link, _ in exports.by_hand():
+        yield case("export", [start, link], h, [7777] * room)
+    yield from drawn(random.Random(103), 10)
+
+
+def main(arguments):
+    if arguments:
+        seed, count = arguments
+        found = drawn(random.Random(f"calls {seed}"), int(count))
+    else:
+        found = stored()
+    sys.stdout.writelines(found)
+
+
+if __name__ == "__main__":
+    if len(sys.argv) not in (1, 3):
+        sys.exit("usage: python3 model/calls.py [SEED COUNT]")
+    main(sys.argv[1:])

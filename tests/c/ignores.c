@@ -1,0 +1,18 @@
+/* What must not compile where a warning is an error: answers that are ignored. Compiled once for each of the numbers below. */
+#include "dergamoyne_heap.h"
+
+int main(void)
+{
+    struct dergamoyne_heap h;
+    dergamoyne_heap_none(&h);
+#if IGNORED == 1
+    dergamoyne_heap_work(&h, 1);
+#elif IGNORED == 2
+    dergamoyne_heap_export(&h, 0, 0, 0, 0, 0, 0);
+#elif IGNORED == 3
+    dergamoyne_allocate(&h.regs, h.words, 0, h.colours, 0, h.bytes, 0, 0, 0);
+#elif IGNORED == 4
+    dergamoyne_look(h.regs, h.words, 0, h.colours, 0, h.bytes, 0, 2);
+#endif
+    return 0;
+}

@@ -1,0 +1,233 @@
+/* include/dergamoyne_heap.h, from C and from C++: what each function returns, what it writes and what it leaves alone. It prints a
+   line for each thing that is otherwise, and exits with 1. */
+#include "dergamoyne_heap.h"
+#include <stdio.h>
+
+enum { LINK = 0, NUMBER = 1, GARBAGE = 7 };
+
+static const uint32_t UNTOUCHED = 7777;
+static int bad;
+
+static void expect(int holds, const char *what)
+{
+    if (!holds) {
+        printf("wrong: %s\n", what);
+        bad = 1;
+    }
+}
+
+/* ---- opening ---- */
+
+static void opening(void)
+{
+    struct dergamoyne_heap h;
+    expect(dergamoyne_heap_open(&h, 0, 1) == DERGAMOYNE_DOES_NOT_FIT, "no blocks");
+    expect(dergamoyne_heap_open(&h, 16385, 1) == DERGAMOYNE_DOES_NOT_FIT, "too many blocks");
+    expect(dergamoyne_heap_open(&h, 1, 65536) == DERGAMOYNE_DOES_NOT_FIT, "too great a pace");
+    expect(dergamoyne_heap_check(&h) == DERGAMOYNE_DOES_NOT_FIT, "a heap that was not opened");
+    expect(dergamoyne_heap_work(&h, 1) == DERGAMOYNE_DOES_NOT_FIT, "work on a heap that was not opened");
+    dergamoyne_heap_close(&h);
+    expect(dergamoyne_heap_open(&h, 16384, 65535) == DERGAMOYNE_DONE, "the largest heap");
+    expect(dergamoyne_heap_check(&h) == DERGAMOYNE_DONE, "it is well-formed");
+    expect(dergamoyne_heap_free_blocks(&h) == 16384 && dergamoyne_heap_allocated_blocks(&h) == 0, "its blocks");
+    dergamoyne_heap_close(&h);
+    expect(dergamoyne_heap_work(&h, 1) == DERGAMOYNE_DOES_NOT_FIT, "work on a heap that was closed");
+    dergamoyne_heap_close(&h);
+}
+
+static void lending(void)
+{
+    struct dergamoyne_heap h;
+    uint32_t words[16], colours[2], block = UNTOUCHED;
+    uint8_t bytes[2];
+    expect(dergamoyne_heap_lend(&h, 2, 1, words, sizeof words, colours, 2, bytes, 2) == DERGAMOYNE_DOES_NOT_FIT, "bytes for words");
+    expect(dergamoyne_heap_new_root(&h, &block) == DERGAMOYNE_DOES_NOT_FIT && block == UNTOUCHED, "nothing is lent then");
+    expect(dergamoyne_heap_lend(&h, 2, 1, words, 16, colours, 2, bytes, 2) == DERGAMOYNE_DONE, "a heap on the stack");
+    expect(dergamoyne_heap_new_root(&h, &block) == DERGAMOYNE_DONE && block == 2, "a root on it");
+    expect(dergamoyne_heap_check(&h) == DERGAMOYNE_DONE, "it is well-formed");
+    dergamoyne_heap_close(&h);
+}
+
+/* A heap saved and loaded elsewhere goes on where it was; a damaged one is refused. */
+static void resuming(void)
+{
+    struct dergamoyne_heap h, other;
+    uint32_t first = 0, second = 0, words[16], colours[2];
+    uint8_t bytes[2];
+    expect(dergamoyne_heap_open(&h, 2, 1) == DERGAMOYNE_DONE && dergamoyne_heap_new_root(&h, &first) == DERGAMOYNE_DONE, "a heap");
+    memcpy(words, h.words, sizeof words);
+    memcpy(colours, h.colours, sizeof colours);
+    memcpy(bytes, h.bytes, sizeof bytes);
+    expect(dergamoyne_heap_resume(&other, h.regs, words, 16, colours, 2, bytes, 2) == DERGAMOYNE_DONE, "it is resumed");
+    expect(dergamoyne_heap_new_block(&other, first, 0, &second) == DERGAMOYNE_DONE && second == 3, "it goes on");
+    expect(dergamoyne_heap_resume(&other, h.regs, words, 16, colours, 2, bytes, 2) == DERGAMOYNE_DAMAGE, "an older record");
+    expect(dergamoyne_heap_resume(&other, h.regs, words, 64, colours, 2, bytes, 2) == DERGAMOYNE_DOES_NOT_FIT, "a length in bytes");
+    expect(dergamoyne_heap_work(&other, 1) == DERGAMOYNE_DOES_NOT_FIT, "there is no heap then");
+    dergamoyne_heap_close(&other);
+    dergamoyne_heap_close(&h);
+}
+
+/* ---- what must not be taken for something else ---- */
+
+static void zeroes(struct dergamoyne_heap *h, uint32_t root)
+{
+    uint32_t block = UNTOUCHED;
+    struct dergamoyne_regs before = h->regs;
+    expect(dergamoyne_heap_new_block(h, 0, 0, &block) == DERGAMOYNE_NO_SUCH_WORD, "no holder");
+    expect(dergamoyne_heap_new_row(h, 0, 0, LINK, &block) == DERGAMOYNE_NO_SUCH_WORD, "no holder of a row");
+    expect(dergamoyne_heap_new_row(h, root, 0, 8, &block) == DERGAMOYNE_NO_SUCH_WORD, "no link word");
+    expect(dergamoyne_heap_first_row(h, 8, &block) == DERGAMOYNE_NO_SUCH_WORD, "no link word of a first row");
+    expect(dergamoyne_heap_store_reference(h, root, 1, 0) == DERGAMOYNE_NO_SUCH_TARGET, "no target");
+    expect(dergamoyne_heap_set_root(h, 0) == DERGAMOYNE_NO_SUCH_TARGET, "no root");
+    expect(block == UNTOUCHED, "a refusal leaves the block alone");
+    expect(memcmp(&before, &h->regs, sizeof before) == 0, "and the record");
+}
+
+static void words(struct dergamoyne_heap *h, uint32_t root)
+{
+    uint32_t value = UNTOUCHED, second = 0;
+    int reference = 7777;
+    const uint32_t *eight = NULL;
+    expect(dergamoyne_heap_read(h, root, 8, &value, &reference) == DERGAMOYNE_NO_SUCH_WORD, "no such word");
+    expect(value == UNTOUCHED && reference == 7777, "a refused read leaves both alone");
+    expect(dergamoyne_heap_store_number(h, root, 1, 42) == DERGAMOYNE_DONE, "a number");
+    expect(dergamoyne_heap_read_reference(h, root, 1, &value) == DERGAMOYNE_NOT_A_REFERENCE && value == UNTOUCHED, "no reference");
+    expect(dergamoyne_heap_read_number(h, root, 1, &value) == DERGAMOYNE_DONE && value == 42, "the number");
+    expect(dergamoyne_heap_new_block(h, root, 2, &second) == DERGAMOYNE_DONE && second == 3, "a block");
+    expect(dergamoyne_heap_read(h, root, 2, &value, &reference) == DERGAMOYNE_DONE, "its reference");
+    expect(value == 3 && reference == 1, "its reference");
+    expect(dergamoyne_heap_read_number(h, root, 2, &value) == DERGAMOYNE_NOT_A_NUMBER, "no number");
+    expect(dergamoyne_heap_look(h, 1, &eight) == DERGAMOYNE_NO_SUCH_WORD && eight == NULL, "a refused look");
+    expect(dergamoyne_heap_look(h, root, &eight) == DERGAMOYNE_DONE && eight[1] == 42 && eight[2] == 3, "a look");
+    expect(dergamoyne_heap_store_null(h, root, 2) == DERGAMOYNE_DONE, "the null reference");
+    expect(dergamoyne_heap_read_reference(h, root, 2, &value) == DERGAMOYNE_DONE && value == 0, "it is read");
+    expect(dergamoyne_heap_collect(h) == DERGAMOYNE_DONE && dergamoyne_heap_free_blocks(h) == 3, "what nobody holds is freed");
+    expect(dergamoyne_heap_store_reference(h, root, 2, second) == DERGAMOYNE_TARGET_GONE, "a target that is free");
+    expect(dergamoyne_heap_read_number(h, second, 1, &value) == DERGAMOYNE_BLOCK_GONE, "a block that is free");
+}
+
+static void checks(struct dergamoyne_heap *h)
+{
+    struct dergamoyne_heap wrong = *h;
+    uint32_t colour = h->colours[0];
+    wrong.bytes_length = 8;
+    expect(dergamoyne_heap_check(&wrong) == DERGAMOYNE_DOES_NOT_FIT, "a length that doesn't fit");
+    wrong = *h;
+    wrong.regs.root = 77;
+    expect(dergamoyne_heap_check(&wrong) == DERGAMOYNE_REGISTERS, "a register that is wrong");
+    h->colours[0] = 4294967293u;
+    expect(dergamoyne_heap_check(h) == DERGAMOYNE_DAMAGE, "contents that are wrong");
+    h->colours[0] = colour;
+    expect(dergamoyne_heap_check(h) == DERGAMOYNE_DONE, "a heap that is well-formed");
+}
+
+static void small_heap(void)
+{
+    struct dergamoyne_heap h;
+    uint32_t root = 0;
+    expect(dergamoyne_heap_open(&h, 4, 1) == DERGAMOYNE_DONE, "a heap");
+    expect(dergamoyne_heap_new_root(&h, &root) == DERGAMOYNE_DONE && root == 2 && dergamoyne_heap_root(&h) == 2, "a root");
+    expect(dergamoyne_heap_phase(&h) == DERGAMOYNE_MARKING && dergamoyne_heap_cycles(&h) == 1, "a cycle was begun");
+    zeroes(&h, root);
+    words(&h, root);
+    checks(&h);
+    expect(dergamoyne_heap_clear_root(&h) == DERGAMOYNE_DONE && dergamoyne_heap_root(&h) == 0, "no root");
+    expect(dergamoyne_heap_collect(&h) == DERGAMOYNE_DONE && dergamoyne_heap_free_blocks(&h) == 4, "all is free");
+    dergamoyne_heap_close(&h);
+}
+
+/* ---- lists ---- */
+
+/* Exports the list from the root on: a number of rows and the reason; what isn't complete leaves the number alone. */
+static void exports(const struct dergamoyne_heap *h, size_t room, uint32_t expected, enum dergamoyne_reason why, const char *what)
+{
+    static uint32_t out[2000][8];
+    struct dergamoyne_export_answer details;
+    uint32_t rows = UNTOUCHED;
+    expect(dergamoyne_heap_export(h, dergamoyne_heap_root(h), LINK, out, room, &rows, &details) == why, what);
+    expect(details.rows == expected, what);
+    expect(rows == (why == DERGAMOYNE_COMPLETE ? expected : UNTOUCHED), what);
+    for (uint32_t n = 0; n < expected; n++)
+        expect(out[n][NUMBER] == n, what);
+}
+
+/* A list of so many rows with two blocks of garbage after each, on a heap of m blocks at pace u. Stops at a refusal. Answers how
+   many rows were added. */
+static uint32_t add_rows(struct dergamoyne_heap *h, uint32_t rows, enum dergamoyne_refusal *r)
+{
+    uint32_t last = 0, garbage = 0, n;
+    for (n = 0; n < rows; n++) {
+        *r = n == 0 ? dergamoyne_heap_first_row(h, LINK, &last) : dergamoyne_heap_new_row(h, last, LINK, LINK, &last);
+        if (*r != DERGAMOYNE_DONE)
+            return n;
+        *r = dergamoyne_heap_store_number(h, last, NUMBER, n);
+        for (int i = 0; i < 2 && *r == DERGAMOYNE_DONE; i++)
+            *r = dergamoyne_heap_new_block(h, dergamoyne_heap_root(h), GARBAGE, &garbage);
+        if (*r != DERGAMOYNE_DONE)
+            return n + 1;
+    }
+    return n;
+}
+
+/* On a heap that is too small for its garbage, the loop stops with a refusal, and the rows added before it are all there. */
+static void undersized(void)
+{
+    struct dergamoyne_heap h;
+    enum dergamoyne_refusal r;
+    uint32_t rows;
+    expect(dergamoyne_heap_open(&h, 1100, 2) == DERGAMOYNE_DONE, "an undersized heap");
+    rows = add_rows(&h, 1000, &r);
+    expect(r == DERGAMOYNE_NO_FREE_BLOCK && rows < 1000, "it is refused by 7");
+    exports(&h, 2000, rows, DERGAMOYNE_COMPLETE, "the rows added before");
+    expect(dergamoyne_heap_check(&h) == DERGAMOYNE_DONE, "it is well-formed");
+    dergamoyne_heap_close(&h);
+}
+
+static void enough(void)
+{
+    struct dergamoyne_heap h;
+    enum dergamoyne_refusal r;
+    expect(dergamoyne_heap_open(&h, 1500, 20) == DERGAMOYNE_DONE, "a heap that is large enough");
+    expect(add_rows(&h, 1000, &r) == 1000 && r == DERGAMOYNE_DONE, "all rows are added");
+    exports(&h, 2000, 1000, DERGAMOYNE_COMPLETE, "all rows");
+    exports(&h, 1000, 1000, DERGAMOYNE_COMPLETE, "just room");
+    exports(&h, 999, 999, DERGAMOYNE_NO_ROOM, "no room");
+    exports(&h, 0, 0, DERGAMOYNE_NO_ROOM, "no room at all");
+    exports(&h, 2000, 1000, DERGAMOYNE_COMPLETE, "all rows, once more");
+    dergamoyne_heap_close(&h);
+}
+
+/* ---- texts and versions ---- */
+
+static void texts(void)
+{
+    for (uint32_t n = 0; n < 10; n++)
+        for (uint32_t m = 0; m < n; m++)
+            expect(strcmp(dergamoyne_refusal_text(n), dergamoyne_refusal_text(m)) != 0, "a refusal has a text of its own");
+    for (uint32_t n = 1; n < 5; n++)
+        expect(strcmp(dergamoyne_reason_text(n), dergamoyne_reason_text(n - 1)) != 0, "a reason has a text of its own");
+    expect(strcmp(dergamoyne_refusal_text(10), dergamoyne_refusal_text(11)) == 0, "an unknown refusal");
+}
+
+static void versions(void)
+{
+    char text[40];
+    unsigned n = DERGAMOYNE_VERSION;
+    snprintf(text, sizeof text, "%u.%u.%u", n / 1000000, n / 1000 % 1000, n % 1000);
+    expect(strcmp(text, DERGAMOYNE_VERSION_TEXT) == 0, "the version in text");
+    expect(dergamoyne_version() == DERGAMOYNE_VERSION, "the library's version");
+    expect(dergamoyne_record_size() == sizeof(struct dergamoyne_regs), "the record's size");
+}
+
+int main(void)
+{
+    opening();
+    lending();
+    resuming();
+    small_heap();
+    undersized();
+    enough();
+    texts();
+    versions();
+    return bad;
+}
