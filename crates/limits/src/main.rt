@@ -1,18 +1,14 @@
-// The cases of document 01 at the limits: each line is what a call answers, or a number of cases 12 and 13.
-// The calls are done first, and what they answered is then put into the buffer of what is to be written.
+// The cases of document 01 at the limits: each line is what a call answers, or a number of cases 12 and 13. The calls on the greatest
+// heap stand in a table, and are done as heaprun does them.
 use blocks::Answer;
-use blocks::ReadAnswer;
 use blocks::Regs;
+use lines::Command;
 use streams::Output;
 
-// Puts what a call answered.
-fn show(out: &mut [u8; 65536], o: Output, a: Answer) -> Output {
-    streams::put_three(out, o, a.refusal, a.value, a.units)
-}
-
-// Puts what Read answered: refusal, value, and 1 for a reference.
-fn show_word(out: &mut [u8; 65536], o: Output, a: ReadAnswer) -> Output {
-    streams::put_three(out, o, a.refusal, a.value, a.reference)
+// The registers after a call, and what waits to be written.
+struct Done {
+    regs: Regs,
+    output: Output,
 }
 
 // Registers before a first Format.
@@ -30,36 +26,58 @@ fn zeroes() -> Regs {
     }
 }
 
-// Case 11, on buffers that fit 16,385 blocks: M of 0 and of 16,385 are refused.
-fn refused(
-    words: &mut [u32; 131080],
-    colours: &mut [u32; 16385],
-    bytes: &mut [u8; 16385],
-    out: &mut [u8; 65536],
-    o: Output,
-) -> Output {
-    let a = formatting::format(zeroes(), words, colours, bytes, 0, 1);
-    let b = formatting::format(a.regs, words, colours, bytes, 16385, 1);
-    let p = show(out, o, a.answer);
-    show(out, p, b.answer)
+// The calls on the greatest heap. Case 11 is 0 to 3: the greatest M and pace, a block, the greatest Work, and one more. Then 4 and 5: a
+// heap, of which all blocks but one get used; 6 takes that one, 7 to 11 find, write, read and audit it, and 12 finds no block free.
+fn asked(k: u32) -> Command {
+    match k {
+        0 => Command::Format(16384, 65535),
+        1 => Command::Allocate(0, 0),
+        2 => Command::Work(65535),
+        3 => Command::Work(65536),
+        4 => Command::Format(16384, 1),
+        5 => Command::Allocate(0, 0),
+        6 => Command::Allocate(16384, 0),
+        7 => Command::Read(16384, 0),
+        8 => Command::Read(16385, 0),
+        9 => Command::StoreNumber(16385, 7, 4294967295),
+        10 => Command::Read(16385, 7),
+        11 => Command::Audit,
+        _ => Command::Allocate(16385, 0),
+    }
 }
 
-// Case 11, on buffers that fit 16,384 blocks: the greatest M and pace, the greatest Work, and one more.
-fn greatest(
+// A call, and what it answered is put.
+fn call(
+    d: Done,
     words: &mut [u32; 131072],
     colours: &mut [u32; 16384],
     bytes: &mut [u8; 16384],
     out: &mut [u8; 65536],
-    o: Output,
-) -> Output {
-    let a = formatting::format(zeroes(), words, colours, bytes, 16384, 65535);
-    let b = allocating::allocate(a.regs, words, colours, bytes, 0, 0);
-    let c = working::work(b.regs, words, colours, bytes, 65535);
-    let d = working::work(c.regs, words, colours, bytes, 65536);
-    let p = show(out, o, a.answer);
-    let q = show(out, p, b.answer);
-    let r = show(out, q, c.answer);
-    show(out, r, d.answer)
+    c: Command,
+) -> Done {
+    let s = lines::perform(d.regs, words, colours, bytes, c);
+    let o = streams::put_three(out, d.output, s.first, s.second, s.third);
+    let r = s.regs;
+    Done { regs: r, output: o }
+}
+
+// The calls from one of the table up to another.
+fn calls(
+    start: Done,
+    words: &mut [u32; 131072],
+    colours: &mut [u32; 16384],
+    bytes: &mut [u8; 16384],
+    out: &mut [u8; 65536],
+    from: u32,
+    to: u32,
+) -> Done {
+    let mut d = start;
+    let mut k = from;
+    while k < to {
+        d = call(d, words, colours, bytes, out, asked(k));
+        k += 1;
+    }
+    d
 }
 
 // Blocks are allocated in a chain, each named by the one before, until one is left.
@@ -79,62 +97,46 @@ fn chain(
     s
 }
 
-// The last block of a heap all in use is written, read and audited; then no block is free.
-fn written(
-    r: Regs,
+// Case 11 on the greatest heap, and a heap all in use.
+fn greatest(
     words: &mut [u32; 131072],
     colours: &mut [u32; 16384],
     bytes: &mut [u8; 16384],
     out: &mut [u8; 65536],
     o: Output,
 ) -> Output {
-    let a = reading::read(r, words, colours, bytes, 16384, 0);
-    let b = reading::read(r, words, colours, bytes, 16385, 0);
-    let c = storing::store_number(r, words, colours, bytes, 16385, 7, 4294967295);
-    let d = reading::read(c.regs, words, colours, bytes, 16385, 7);
-    let e = auditing::audit(c.regs, words, colours, bytes);
-    let f = allocating::allocate(c.regs, words, colours, bytes, 16385, 0);
-    let p = show_word(out, o, a);
-    let q = show_word(out, p, b);
-    let s = show(out, q, c.answer);
-    let t = show_word(out, s, d);
-    let u = show(out, t, e);
-    show(out, u, f.answer)
+    let fresh = Done {
+        regs: zeroes(),
+        output: o,
+    };
+    let d = calls(fresh, words, colours, bytes, out, 0, 6);
+    let r = chain(d.regs, words, colours, bytes);
+    let p = d.output;
+    let full = Done { regs: r, output: p };
+    let e = calls(full, words, colours, bytes, out, 6, 13);
+    e.output
 }
 
-// All blocks are allocated, in a chain; then the last one is put to use.
-fn last(
-    words: &mut [u32; 131072],
-    colours: &mut [u32; 16384],
-    bytes: &mut [u8; 16384],
-    out: &mut [u8; 65536],
-    o: Output,
-) -> Output {
-    let a = formatting::format(zeroes(), words, colours, bytes, 16384, 1);
-    let b = allocating::allocate(a.regs, words, colours, bytes, 0, 0);
-    let r = chain(b.regs, words, colours, bytes);
-    let c = allocating::allocate(r, words, colours, bytes, 16384, 0);
-    let p = show(out, o, a.answer);
-    let q = show(out, p, b.answer);
-    let s = show(out, q, c.answer);
-    written(c.regs, words, colours, bytes, out, s)
-}
-
-// Case 11 where M is out of its range.
-fn too_many(out: &mut [u8; 65536], o: Output) -> Output {
-    let mut words = [0u32; 131080];
-    let mut colours = [0u32; 16385];
-    let mut bytes = [0u8; 16385];
-    refused(&mut words, &mut colours, &mut bytes, out, o)
-}
-
-// Case 11 with the greatest M, and a heap all in use.
+// The same on memory of its own.
 fn as_many_as_there_may_be(out: &mut [u8; 65536], o: Output) -> Output {
     let mut words = [0u32; 131072];
     let mut colours = [0u32; 16384];
     let mut bytes = [0u8; 16384];
-    let p = greatest(&mut words, &mut colours, &mut bytes, out, o);
-    last(&mut words, &mut colours, &mut bytes, out, p)
+    greatest(&mut words, &mut colours, &mut bytes, out, o)
+}
+
+// Case 11 where M is out of its range: on buffers that fit 16,385 blocks, M of 0 and of 16,385 is refused.
+fn refused(m: u32) -> Answer {
+    let mut words = [0u32; 131080];
+    let mut colours = [0u32; 16385];
+    let mut bytes = [0u8; 16385];
+    let o = formatting::format(zeroes(), &mut words, &mut colours, &mut bytes, m, 1);
+    o.answer
+}
+
+// Puts what a call answered.
+fn show(out: &mut [u8; 65536], o: Output, a: Answer) -> Output {
+    streams::put_three(out, o, a.refusal, a.value, a.units)
 }
 
 // Puts 1 for yes and 0 for no, as a line.
@@ -156,8 +158,9 @@ fn sizes(out: &mut [u8; 65536], o: Output) -> Output {
 
 fn main() {
     let mut out = io::large_buffer();
-    let a = too_many(&mut out, streams::empty());
-    let b = as_many_as_there_may_be(&mut out, a);
-    let c = sizes(&mut out, b);
-    streams::flush(&out, c);
+    let a = show(&mut out, streams::empty(), refused(0));
+    let b = show(&mut out, a, refused(16385));
+    let c = as_many_as_there_may_be(&mut out, b);
+    let d = sizes(&mut out, c);
+    streams::flush(&out, d);
 }

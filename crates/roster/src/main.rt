@@ -5,6 +5,7 @@ mod night;
 mod printing;
 
 use blocks::Regs;
+use damage::Tried;
 use exporting::Exported;
 use night::Night;
 
@@ -23,8 +24,10 @@ fn shown(text: &[u8], x: Exported, out: &[u32]) -> bool {
         )
 }
 
-// One line more is said where all before it could be written: what the export answered. The night is then t.
-fn further(s: Said, t: Night, text: &[u8], x: Exported) -> Said {
+// One line more is said where all before it could be written: what the export answered. The night is then that after it.
+fn further(s: Said, y: Tried, text: &[u8]) -> Said {
+    let t = y.night;
+    let x = y.found;
     let whole = s.whole && printing::outcome(text, x);
     Said {
         night: t,
@@ -41,7 +44,7 @@ fn finished(r: Regs) -> u32 {
 }
 
 // What was done.
-fn told(t: Night, words: &[u32], colours: &[u32], bytes: &[u8]) -> bool {
+fn told(t: Night, words: &[u32; 131072], colours: &[u32; 16384], bytes: &[u8; 16384]) -> bool {
     let r = t.regs;
     let a = auditing::audit(r, words, colours, bytes);
     printing::answer(
@@ -58,17 +61,23 @@ fn told(t: Night, words: &[u32], colours: &[u32], bytes: &[u8]) -> bool {
 }
 
 // The export into a buffer of 5,000 rows.
-fn shortened(t: Night, words: &[u32], colours: &[u32], bytes: &[u8]) -> bool {
+fn shortened(t: Night, words: &[u32; 131072], colours: &[u32; 16384], bytes: &[u8; 16384]) -> bool {
     let mut out = [0u32; 40000];
     let x = night::exported(t, words, colours, bytes, &mut out);
     printing::outcome(b"into a buffer of 5000 rows: ", x)
 }
 
 // What was done, the export of the list, and one into a buffer that is too short.
-fn first(t: Night, words: &[u32], colours: &[u32], bytes: &[u8], out: &mut [u32]) -> Said {
+fn first(
+    t: Night,
+    words: &[u32; 131072],
+    colours: &[u32; 16384],
+    bytes: &[u8; 16384],
+    out: &mut [u32; 131072],
+) -> Said {
     let x = night::exported(t, words, colours, bytes, out);
     let whole = told(t, words, colours, bytes)
-        && shown(b"export: ", x, &out[..])
+        && shown(b"export: ", x, out)
         && shortened(t, words, colours, bytes);
     Said {
         night: t,
@@ -77,69 +86,51 @@ fn first(t: Night, words: &[u32], colours: &[u32], bytes: &[u8], out: &mut [u32]
 }
 
 // The export of the mended list.
-fn mended(s: Said, words: &[u32], colours: &[u32], bytes: &[u8], out: &mut [u32]) -> Said {
+fn mended(
+    s: Said,
+    words: &[u32; 131072],
+    colours: &[u32; 16384],
+    bytes: &[u8; 16384],
+    out: &mut [u32; 131072],
+) -> Said {
     let t = s.night;
     let x = night::exported(t, words, colours, bytes, out);
-    let whole = s.whole && shown(b"with all of that mended: ", x, &out[..]);
+    let whole = s.whole && shown(b"with all of that mended: ", x, out);
     Said {
         night: t,
         whole: whole,
     }
 }
 
-// With row 6,144's link stored as a number.
-fn unlinked(
+// The list damaged in three ways, one after another, and mended each time.
+fn damaged(
     s: Said,
-    words: &mut [u32],
-    colours: &mut [u32],
-    bytes: &mut [u8],
-    out: &mut [u32],
+    words: &mut [u32; 131072],
+    colours: &mut [u32; 16384],
+    bytes: &mut [u8; 16384],
+    out: &mut [u32; 131072],
 ) -> Said {
-    let t = s.night;
-    let y = damage::unlinked(t, words, colours, bytes, out);
-    let u = y.night;
-    let x = y.found;
-    further(s, u, b"with row 6144's link stored as a number: ", x)
+    let x = damage::unlinked(s.night, words, colours, bytes, out);
+    let a = further(s, x, b"with row 6144's link stored as a number: ");
+    let y = damage::discoloured(a.night, words, colours, bytes, out);
+    let b = further(a, y, b"with row 6144's colour word outside the layout: ");
+    let z = damage::circled(b.night, words, colours, bytes, out);
+    further(b, z, b"with the last row linked to the first: ")
 }
 
-// With row 6,144's colour word outside the layout.
-fn discoloured(s: Said, words: &[u32], colours: &mut [u32], bytes: &[u8], out: &mut [u32]) -> Said {
-    let t = s.night;
-    let x = damage::discoloured(t, words, colours, bytes, out);
-    further(s, t, b"with row 6144's colour word outside the layout: ", x)
-}
-
-// With the last row linked to the first.
-fn circled(
-    s: Said,
-    words: &mut [u32],
-    colours: &mut [u32],
-    bytes: &mut [u8],
-    out: &mut [u32],
-) -> Said {
-    let t = s.night;
-    let y = damage::circled(t, words, colours, bytes, out);
-    let u = y.night;
-    let x = y.found;
-    further(s, u, b"with the last row linked to the first: ", x)
-}
-
-// With the list let go.
+// The list let go.
 fn dropped(
     s: Said,
-    words: &mut [u32],
-    colours: &mut [u32],
-    bytes: &mut [u8],
-    out: &mut [u32],
+    words: &mut [u32; 131072],
+    colours: &mut [u32; 16384],
+    bytes: &mut [u8; 16384],
+    out: &mut [u32; 131072],
 ) -> Said {
-    let t = s.night;
-    let u = damage::dropped(t, words, colours, bytes);
-    let x = night::exported(u, &words[..], &colours[..], &bytes[..], out);
+    let x = damage::dropped(s.night, words, colours, bytes, out);
     further(
         s,
-        u,
-        b"once the root let go of it and the collector came by: ",
         x,
+        b"once the root let go of it and the collector came by: ",
     )
 }
 
@@ -149,17 +140,24 @@ fn ended(s: Said) {
     printing::ended(s.whole && printing::number(b"calls refused, in all: ", t.refused));
 }
 
+// A night, and all that is said of it.
+fn run(
+    words: &mut [u32; 131072],
+    colours: &mut [u32; 16384],
+    bytes: &mut [u8; 16384],
+    out: &mut [u32; 131072],
+) {
+    let t = night::spent(words, colours, bytes);
+    let a = first(t, words, colours, bytes, out);
+    let b = damaged(a, words, colours, bytes, out);
+    let c = mended(b, words, colours, bytes, out);
+    ended(dropped(c, words, colours, bytes, out));
+}
+
 fn main() {
     let mut words = [0u32; 131072];
     let mut colours = [0u32; 16384];
     let mut bytes = [0u8; 16384];
     let mut out = [0u32; 131072];
-    let empty = night::begun(&mut words, &mut colours, &mut bytes);
-    let full = night::stored(empty, &mut words, &mut colours, &mut bytes);
-    let a = first(full, &words, &colours, &bytes, &mut out);
-    let b = unlinked(a, &mut words, &mut colours, &mut bytes, &mut out);
-    let c = discoloured(b, &words, &mut colours, &bytes, &mut out);
-    let d = circled(c, &mut words, &mut colours, &mut bytes, &mut out);
-    let e = mended(d, &words, &colours, &bytes, &mut out);
-    ended(dropped(e, &mut words, &mut colours, &mut bytes, &mut out));
+    run(&mut words, &mut colours, &mut bytes, &mut out);
 }

@@ -1,16 +1,19 @@
 // A night: rows are stored behind one another, with garbage made after each, and exported.
-use blocks::Outcome;
 use blocks::Regs;
 use exporting::Exported;
+use lines::Command;
+use lines::Said;
 
-// The list while it grows: the registers, its first and its last block, the block of row 6,144, and how many calls were
-// refused.
-pub struct Night {
-    pub regs: Regs,
-    pub first: u32,
-    pub last: u32,
-    pub marked: u32,
-    pub refused: u32,
+// The list while it grows: the registers, its first and its last block, the blocks of row 6,144 and of the row following it, what the
+// last call gave, and how many calls were refused.
+pub(crate) struct Night {
+    pub(crate) regs: Regs,
+    pub(crate) first: u32,
+    pub(crate) last: u32,
+    pub(crate) marked: u32,
+    pub(crate) following: u32,
+    pub(crate) given: u32,
+    pub(crate) refused: u32,
 }
 
 // One more where the call was refused.
@@ -21,32 +24,29 @@ fn count(refused: u32, refusal: u32) -> u32 {
     std::num::wrapping_add_u32(refused, 1)
 }
 
-// The night after a call that leaves the list as it is.
-pub fn after(t: Night, o: Outcome) -> Night {
-    let a = o.answer;
-    let r = o.regs;
+// The night after a call.
+fn after(t: Night, s: Said) -> Night {
+    let r = s.regs;
     let mut n = t;
     n.regs = r;
-    n.refused = count(t.refused, a.refusal);
+    n.given = s.second;
+    n.refused = count(t.refused, s.first);
     n
 }
 
-// The night after row n was allocated.
-fn grown(t: Night, o: Outcome, n: u32) -> Night {
-    let a = o.answer;
-    let mut s = after(t, o);
-    s.last = a.value;
-    if n == 1 {
-        s.first = a.value;
-    }
-    if n == 6144 {
-        s.marked = a.value;
-    }
-    s
+// A call on the night's heap.
+pub(crate) fn call(
+    t: Night,
+    words: &mut [u32; 131072],
+    colours: &mut [u32; 16384],
+    bytes: &mut [u8; 16384],
+    c: Command,
+) -> Night {
+    after(t, lines::perform(t.regs, words, colours, bytes, c))
 }
 
-// A night before its first row: an empty heap, and the block that holds the list in its word 0.
-pub fn begun(words: &mut [u32], colours: &mut [u32], bytes: &mut [u8]) -> Night {
+// A night before its first call.
+fn fresh() -> Night {
     let zero = Regs {
         blocks: 0,
         pace: 0,
@@ -58,105 +58,98 @@ pub fn begun(words: &mut [u32], colours: &mut [u32], bytes: &mut [u8]) -> Night 
         root: 0,
         cycle: 0,
     };
-    let f = formatting::format(zero, words, colours, bytes, 16384, 10);
-    let g = f.answer;
-    let o = allocating::allocate(f.regs, words, colours, bytes, 0, 0);
-    let a = o.answer;
-    let r = o.regs;
     Night {
-        regs: r,
+        regs: zero,
         first: 0,
-        last: a.value,
+        last: 0,
         marked: 0,
-        refused: count(count(0, g.refusal), a.refusal),
+        following: 0,
+        given: 0,
+        refused: 0,
     }
 }
 
-// A block of garbage: the root's word 7 holds it until the next.
-fn litter(t: Night, words: &mut [u32], colours: &mut [u32], bytes: &mut [u8]) -> Night {
+// A night before its first row: an empty heap, and the block that holds the list in its word 0.
+fn begun(words: &mut [u32; 131072], colours: &mut [u32; 16384], bytes: &mut [u8; 16384]) -> Night {
+    let t = call(fresh(), words, colours, bytes, Command::Format(16384, 10));
+    let mut u = call(t, words, colours, bytes, Command::Allocate(0, 0));
+    u.last = u.given;
+    u
+}
+
+// The six calls of row n: a block for it, held by the link word of the last row or by the root's; no next; two numbers, its own and
+// how far that is from the greatest number; and two blocks of garbage, which the root's word 7 holds until the next.
+fn asked(t: Night, n: u32, k: u32) -> Command {
     let r = t.regs;
-    after(t, allocating::allocate(r, words, colours, bytes, r.root, 7))
+    match k {
+        0 => Command::Allocate(t.last, 0),
+        1 => Command::StoreReference(t.last, 0, 0),
+        2 => Command::StoreNumber(t.last, 1, n),
+        3 => Command::StoreNumber(t.last, 2, 4294967295 - n),
+        _ => Command::Allocate(r.root, 7),
+    }
 }
 
-// A block for row n, held by the link word of the last row or by the root's.
-fn behind(t: Night, words: &mut [u32], colours: &mut [u32], bytes: &mut [u8], n: u32) -> Night {
-    grown(
-        t,
-        allocating::allocate(t.regs, words, colours, bytes, t.last, 0),
-        n,
-    )
-}
-
-// The reference to the block target in the link word of the block b.
-pub fn link(
-    t: Night,
-    words: &mut [u32],
-    colours: &mut [u32],
-    bytes: &mut [u8],
-    b: u32,
-    target: u32,
-) -> Night {
-    after(
-        t,
-        storing::store_reference(t.regs, words, colours, bytes, b, 0, target),
-    )
-}
-
-// The number v in word w of the block b.
-pub fn put(
-    t: Night,
-    words: &mut [u32],
-    colours: &mut [u32],
-    bytes: &mut [u8],
-    b: u32,
-    w: u32,
-    v: u32,
-) -> Night {
-    after(
-        t,
-        storing::store_number(t.regs, words, colours, bytes, b, w, v),
-    )
-}
-
-// A new last row, with no next.
-fn opened(t: Night, words: &mut [u32], colours: &mut [u32], bytes: &mut [u8], n: u32) -> Night {
-    let s = behind(t, words, colours, bytes, n);
-    link(s, words, colours, bytes, s.last, 0)
-}
-
-// Two numbers in the last row: its own, and how far that is from the greatest number.
-fn filled(t: Night, words: &mut [u32], colours: &mut [u32], bytes: &mut [u8], n: u32) -> Night {
-    let s = put(t, words, colours, bytes, t.last, 1, n);
-    put(s, words, colours, bytes, s.last, 2, 4294967295 - n)
-}
-
-// Row n.
-fn row(t: Night, words: &mut [u32], colours: &mut [u32], bytes: &mut [u8], n: u32) -> Night {
-    let s = opened(t, words, colours, bytes, n);
-    filled(s, words, colours, bytes, n)
-}
-
-// Two blocks of garbage.
-fn littered(t: Night, words: &mut [u32], colours: &mut [u32], bytes: &mut [u8]) -> Night {
-    let s = litter(t, words, colours, bytes);
-    litter(s, words, colours, bytes)
+// The night after call k of row n: after the first, its block is the last one.
+fn grown(t: Night, n: u32, k: u32) -> Night {
+    if k != 0 {
+        return t;
+    }
+    let mut s = t;
+    s.last = t.given;
+    if n == 1 {
+        s.first = t.given;
+    }
+    if n == 6144 {
+        s.marked = t.given;
+    }
+    if n == 6145 {
+        s.following = t.given;
+    }
+    s
 }
 
 // Row n, and garbage after it.
-fn step(t: Night, words: &mut [u32], colours: &mut [u32], bytes: &mut [u8], n: u32) -> Night {
-    let s = row(t, words, colours, bytes, n);
-    littered(s, words, colours, bytes)
+fn row(
+    t: Night,
+    words: &mut [u32; 131072],
+    colours: &mut [u32; 16384],
+    bytes: &mut [u8; 16384],
+    n: u32,
+) -> Night {
+    let mut s = t;
+    let mut k = 0;
+    while k < 6 {
+        s = grown(call(s, words, colours, bytes, asked(s, n, k)), n, k);
+        k += 1;
+    }
+    s
 }
 
 // The rows 1 to 7,000.
-pub fn stored(t: Night, words: &mut [u32], colours: &mut [u32], bytes: &mut [u8]) -> Night {
+fn stored(
+    t: Night,
+    words: &mut [u32; 131072],
+    colours: &mut [u32; 16384],
+    bytes: &mut [u8; 16384],
+) -> Night {
     let mut s = t;
     let mut n = 1;
     while n <= 7000 {
-        s = step(s, words, colours, bytes, n);
+        s = row(s, words, colours, bytes, n);
         n += 1;
     }
     s
+}
+
+// A whole night, on buffers for 16,384 blocks.
+pub(crate) fn spent(
+    words: &mut [u32; 131072],
+    colours: &mut [u32; 16384],
+    bytes: &mut [u8; 16384],
+) -> Night {
+    let t = begun(words, colours, bytes);
+    stored(t, words, colours, bytes)
 }
 
 // Whether row n of the buffer, counted from 1, has the numbers that were stored in it.
@@ -172,7 +165,7 @@ fn as_stored(out: &[u32], n: u32) -> bool {
 }
 
 // How many of the rows 1 to 7,000 are not as they were stored.
-pub fn unlike(out: &[u32]) -> u32 {
+pub(crate) fn unlike(out: &[u32]) -> u32 {
     let mut found = 0;
     let mut n = 1;
     while n <= 7000 {
@@ -187,11 +180,11 @@ pub fn unlike(out: &[u32]) -> u32 {
 }
 
 // The export of the night's list.
-pub fn exported(
+pub(crate) fn exported(
     t: Night,
-    words: &[u32],
-    colours: &[u32],
-    bytes: &[u8],
+    words: &[u32; 131072],
+    colours: &[u32; 16384],
+    bytes: &[u8; 16384],
     out: &mut [u32],
 ) -> Exported {
     exporting::export(t.regs, words, colours, bytes, out, t.first, 0)

@@ -11,12 +11,12 @@ fn decimal(n: u32) -> bool {
 }
 
 // The words and a number.
-pub fn number(text: &[u8], n: u32) -> bool {
+pub(crate) fn number(text: &[u8], n: u32) -> bool {
     say(text) && decimal(n) && say(b"\n")
 }
 
 // The words and yes or no.
-pub fn answer(text: &[u8], yes: bool) -> bool {
+pub(crate) fn answer(text: &[u8], yes: bool) -> bool {
     if yes {
         return say(text) && say(b"yes\n");
     }
@@ -33,7 +33,7 @@ fn reason(r: Reason) -> bool {
 }
 
 // The words, and whether the export is complete, with the number of rows; where it isn't, why.
-pub fn outcome(text: &[u8], x: Exported) -> bool {
+pub(crate) fn outcome(text: &[u8], x: Exported) -> bool {
     match x {
         Exported::Complete(n) => say(text) && number(b"complete, rows: ", n),
         Exported::Stopped(n, r) => {
@@ -43,7 +43,7 @@ pub fn outcome(text: &[u8], x: Exported) -> bool {
 }
 
 // Says on standard error where not all could be written.
-pub fn ended(whole: bool) {
+pub(crate) fn ended(whole: bool) {
     if whole {
         return;
     }
