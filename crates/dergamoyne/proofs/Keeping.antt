@@ -4,11 +4,11 @@
 use Prim.Native.Nat.{ℕ}
 use mathlib.Core.Path.{_≡_}
 use borrow.Author.Tests.{eq-eqb, ne-eqb}
-use Rattle.blocks.specs.Heap.{Heap}
-use Rattle.blocks.specs.Answers.{unless}
-use Rattle.blocks.specs.Read.{readRefusal}
-use Rattle.blocks.specs.Store.{putNumber, storeNumber}
-use Rattle.blocks.proofs.Tests.{by-eq}
+use Rattle.machine.specs.Heap.{Heap}
+use Rattle.machine.specs.Answers.{unless}
+use Rattle.machine.specs.Read.{readRefusal}
+use Rattle.machine.specs.Store.{putNumber, storeNumber}
+use Rattle.machine.proofs.Tests.{by-eq}
 
 pub number-keeps : (b w v : ℕ) (h : Heap) → h .regs ≡ storeNumber b w v h .heap .regs
 unfolding storeNumber unless putNumber

@@ -7,10 +7,10 @@ use mathlib.Core.Path.{_≡_, sym, _∙_}
 use mathlib.Core.Logic.{_≢_}
 use native.Mathlib.Omega.{arith}
 use borrow.Author.Tests.{eq-eqb, ne-eqb}
-use Rattle.blocks.specs.Block.{base}
-use Rattle.blocks.specs.Heap.{Heap}
-use Rattle.blocks.specs.Read.{readRefusal, lookAt}
-use Rattle.blocks.proofs.Refusals.{readable}
+use Rattle.machine.specs.Block.{base}
+use Rattle.machine.specs.Heap.{Heap}
+use Rattle.machine.specs.Read.{readRefusal, lookAt}
+use Rattle.machine.proofs.Refusals.{readable}
 use Rattle.dergamoyne.specs.Host.{noIndex, lookIndex}
 
 module _ (h : Heap) (b : ℕ) {n : ℕ} (e : n ≡ readRefusal b 0 h) where

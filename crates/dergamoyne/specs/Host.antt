@@ -7,10 +7,10 @@
 use Prim.Native.Nat.{ℕ}
 use lib.Dec.{eqb}
 use prog.Memory.{size}
-use Rattle.blocks.specs.Tests.{if_then_else_}
-use Rattle.blocks.specs.Heap.{Heap}
-use Rattle.blocks.specs.Read.{readRefusal, lookAt}
-use Rattle.blocks.proofs.Regs.Laws as Regs
+use Rattle.machine.specs.Tests.{if_then_else_}
+use Rattle.machine.specs.Heap.{Heap}
+use Rattle.machine.specs.Read.{readRefusal, lookAt}
+use Rattle.machine.proofs.Regs.Laws as Regs
 
 unfoldable pub noIndex : ℕ
 noIndex = 4294967295

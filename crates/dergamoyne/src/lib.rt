@@ -1,21 +1,21 @@
 // The outer calls, for a host in C. Six write to the heap: the host lends its one register record, and the call changes it in
 // place, over a core that takes the record by value and gives it back. Four only look, and take the record by value.
-use blocks::Answer;
-use blocks::ReadAnswer;
-use blocks::Regs;
-use exporting::ExportAnswer;
+use call_export::ExportAnswer;
+use machine::Answer;
+use machine::ReadAnswer;
+use machine::Regs;
 ghost use mathlib.Core.Path.{_≡_};
 ghost use mathlib.Core.Logic.{_↔_};
-ghost use Rattle.blocks.specs.WellFormed.{WellFormed};
-ghost use Rattle.blocks.specs.Heap.{heap};
-ghost use Rattle.blocks.specs.Answers.{given};
-ghost use Rattle.blocks.specs.Format.{format};
-ghost use Rattle.blocks.specs.Read.{readRefusal, read};
-ghost use Rattle.blocks.specs.Store.{storeNumber, storeReference, setRoot};
-ghost use Rattle.blocks.specs.Allocate.{allocate};
-ghost use Rattle.blocks.specs.Work.{work};
-ghost use Rattle.blocks.specs.Audit.{audit};
-ghost use Rattle.exporting.specs.Numbers.{exportNumbers};
+ghost use Rattle.machine.specs.WellFormed.{WellFormed};
+ghost use Rattle.machine.specs.Heap.{heap};
+ghost use Rattle.machine.specs.Answers.{given};
+ghost use Rattle.machine.specs.Format.{format};
+ghost use Rattle.machine.specs.Read.{readRefusal, read};
+ghost use Rattle.machine.specs.Store.{storeNumber, storeReference, setRoot};
+ghost use Rattle.machine.specs.Allocate.{allocate};
+ghost use Rattle.machine.specs.Work.{work};
+ghost use Rattle.machine.specs.Audit.{audit};
+ghost use Rattle.call_export.specs.Numbers.{exportNumbers};
 ghost use Rattle.dergamoyne.specs.Host.{lookIndex, version, recordSize};
 
 // What Look answers a host: the refusal of Read of word 0, or 0, and the index of the block's first word in the word buffer. On a
@@ -54,7 +54,7 @@ pub extern "C" fn dergamoyne_format(
 ) -> Answer
     ensures { λ a. ⌜ given (record { regs = now (regs .exit); answer = a }) (now (words .exit)) (now (colours .exit)) (now (bytes .exit)) ≡ format m u (heap (now (regs .entry)) (now (words .entry)) (now (colours .entry)) (now (bytes .entry))) ⌝ }
 {
-    let formatted = formatting::format(*regs, words, colours, bytes, m, u);
+    let formatted = call_format::format(*regs, words, colours, bytes, m, u);
     *regs = formatted.regs;
     formatted.answer
 }
@@ -71,7 +71,7 @@ pub extern "C" fn dergamoyne_read(
 ) -> ReadAnswer
     ensures { λ x. ⌜ (record { answer = x; heap = heap regs (now (words .exit)) (now (colours .exit)) (now (bytes .exit)) }) ≡ read b w (heap regs (now (words .entry)) (now (colours .entry)) (now (bytes .entry))) ⌝ }
 {
-    reading::read(regs, words, colours, bytes, b, w)
+    call_read::read(regs, words, colours, bytes, b, w)
 }
 
 // Look: where in the word buffer the eight words of the block b begin, or the refusal of Read of word 0.
@@ -85,8 +85,8 @@ pub extern "C" fn dergamoyne_look(
 ) -> LookAnswer
     ensures { λ x. ⌜ (x .refusal ≡ readRefusal b 0 (heap regs (now (words .entry)) (now (colours .entry)) (now (bytes .entry)))) × (x .at ≡ lookIndex b (heap regs (now (words .entry)) (now (colours .entry)) (now (bytes .entry)))) ⌝ }
 {
-    let e = checks::entry(regs, words, colours, bytes);
-    let n = checks::read_refusal_after(e, regs, words, colours, bytes, b, 0);
+    let e = part_checks::entry(regs, words, colours, bytes);
+    let n = part_checks::read_refusal_after(e, regs, words, colours, bytes, b, 0);
     if n != 0 {
         return LookAnswer {
             refusal: n,
@@ -112,7 +112,7 @@ pub extern "C" fn dergamoyne_store_number(
 ) -> Answer
     ensures { λ a. ⌜ given (record { regs = now (regs .exit); answer = a }) (now (words .exit)) (now (colours .exit)) (now (bytes .exit)) ≡ storeNumber b w v (heap (now (regs .entry)) (now (words .entry)) (now (colours .entry)) (now (bytes .entry))) ⌝ }
 {
-    let stored = storing::store_number(*regs, words, colours, bytes, b, w, v);
+    let stored = call_store::store_number(*regs, words, colours, bytes, b, w, v);
     stored.answer
 }
 
@@ -129,7 +129,7 @@ pub extern "C" fn dergamoyne_store_reference(
 ) -> Answer
     ensures { λ a. ⌜ given (record { regs = now (regs .exit); answer = a }) (now (words .exit)) (now (colours .exit)) (now (bytes .exit)) ≡ storeReference b w t (heap (now (regs .entry)) (now (words .entry)) (now (colours .entry)) (now (bytes .entry))) ⌝ }
 {
-    let stored = storing::store_reference(*regs, words, colours, bytes, b, w, t);
+    let stored = call_store::store_reference(*regs, words, colours, bytes, b, w, t);
     regs.grey = stored.regs.grey;
     stored.answer
 }
@@ -145,7 +145,7 @@ pub extern "C" fn dergamoyne_set_root(
 ) -> Answer
     ensures { λ a. ⌜ given (record { regs = now (regs .exit); answer = a }) (now (words .exit)) (now (colours .exit)) (now (bytes .exit)) ≡ setRoot t (heap (now (regs .entry)) (now (words .entry)) (now (colours .entry)) (now (bytes .entry))) ⌝ }
 {
-    let set = storing::set_root(*regs, words, colours, bytes, t);
+    let set = call_store::set_root(*regs, words, colours, bytes, t);
     regs.grey = set.regs.grey;
     regs.root = set.regs.root;
     set.answer
@@ -163,7 +163,7 @@ pub extern "C" fn dergamoyne_allocate(
 ) -> Answer
     ensures { λ a. ⌜ given (record { regs = now (regs .exit); answer = a }) (now (words .exit)) (now (colours .exit)) (now (bytes .exit)) ≡ allocate b w (heap (now (regs .entry)) (now (words .entry)) (now (colours .entry)) (now (bytes .entry))) ⌝ }
 {
-    let taken = allocating::allocate(*regs, words, colours, bytes, b, w);
+    let taken = call_allocate::allocate(*regs, words, colours, bytes, b, w);
     *regs = taken.regs;
     taken.answer
 }
@@ -179,7 +179,7 @@ pub extern "C" fn dergamoyne_work(
 ) -> Answer
     ensures { λ a. ⌜ given (record { regs = now (regs .exit); answer = a }) (now (words .exit)) (now (colours .exit)) (now (bytes .exit)) ≡ work n (heap (now (regs .entry)) (now (words .entry)) (now (colours .entry)) (now (bytes .entry))) ⌝ }
 {
-    let worked = working::work(*regs, words, colours, bytes, n);
+    let worked = call_work::work(*regs, words, colours, bytes, n);
     *regs = worked.regs;
     worked.answer
 }
@@ -195,7 +195,7 @@ pub extern "C" fn dergamoyne_audit(
     ensures { λ x. ⌜ (record { answer = x; heap = heap regs (now (words .exit)) (now (colours .exit)) (now (bytes .exit)) }) ≡ audit (heap regs (now (words .entry)) (now (colours .entry)) (now (bytes .entry))) ⌝ }
     ensures meaning { λ x. ⌜ ((x .value ≡ 1) ↔ WellFormed (heap regs (now (words .entry)) (now (colours .entry)) (now (bytes .entry)))) ⌝ }
 {
-    auditing::audit(regs, words, colours, bytes)
+    call_audit::audit(regs, words, colours, bytes)
 }
 
 // Export: the rows of the list that starts at the block start, where 0 is the empty list, and goes on by the reference in word
@@ -212,5 +212,5 @@ pub extern "C" fn dergamoyne_export(
 ) -> ExportAnswer
     ensures { λ a. ⌜ (record { answer = a; out = now (out .exit) }) ≡ exportNumbers start link (heap regs (now (words .entry)) (now (colours .entry)) (now (bytes .entry))) (now (out .entry)) ⌝ }
 {
-    exporting::export_numbers(regs, words, colours, bytes, out, start, link)
+    call_export::export_numbers(regs, words, colours, bytes, out, start, link)
 }

@@ -1,4 +1,4 @@
 // Does the cases of standard input, one call a line, and prints the answer and the whole heap afterwards.
 fn main() {
-    probing::run();
+    text_probe::run();
 }

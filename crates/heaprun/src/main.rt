@@ -1,4 +1,4 @@
 // Does the lines of standard input, one call a line, and prints what each answers.
 fn main() {
-    running::run();
+    text_run::run();
 }

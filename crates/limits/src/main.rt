@@ -1,9 +1,9 @@
 // The cases of document 01 at the limits: each line is what a call answers, or a number of cases 12 and 13. The calls on the greatest
 // heap stand in a table, and are done as heaprun does them.
-use blocks::Answer;
-use blocks::Regs;
-use lines::Command;
-use streams::Output;
+use machine::Answer;
+use machine::Regs;
+use text_lines::Command;
+use text_streams::Output;
 
 // The registers after a call, and what waits to be written.
 struct Done {
@@ -55,8 +55,8 @@ fn call(
     out: &mut [u8; 65536],
     c: Command,
 ) -> Done {
-    let s = lines::perform(d.regs, words, colours, bytes, c);
-    let o = streams::put_three(out, d.output, s.first, s.second, s.third);
+    let s = text_lines::perform(d.regs, words, colours, bytes, c);
+    let o = text_streams::put_three(out, d.output, s.first, s.second, s.third);
     let r = s.regs;
     Done { regs: r, output: o }
 }
@@ -90,7 +90,7 @@ fn chain(
     let mut s = r;
     let mut b = 2;
     while b < 16384 {
-        let o = allocating::allocate(s, words, colours, bytes, b, 0);
+        let o = call_allocate::allocate(s, words, colours, bytes, b, 0);
         s = o.regs;
         b += 1;
     }
@@ -130,37 +130,37 @@ fn refused(m: u32) -> Answer {
     let mut words = [0u32; 131080];
     let mut colours = [0u32; 16385];
     let mut bytes = [0u8; 16385];
-    let o = formatting::format(zeroes(), &mut words, &mut colours, &mut bytes, m, 1);
+    let o = call_format::format(zeroes(), &mut words, &mut colours, &mut bytes, m, 1);
     o.answer
 }
 
 // Puts what a call answered.
 fn show(out: &mut [u8; 65536], o: Output, a: Answer) -> Output {
-    streams::put_three(out, o, a.refusal, a.value, a.units)
+    text_streams::put_three(out, o, a.refusal, a.value, a.units)
 }
 
 // Puts 1 for yes and 0 for no, as a line.
 fn put_yes(out: &mut [u8; 65536], o: Output, yes: bool) -> Output {
     if yes {
-        return streams::put(out, o, 1, 10);
+        return text_streams::put(out, o, 1, 10);
     }
-    streams::put(out, o, 0, 10)
+    text_streams::put(out, o, 0, 10)
 }
 
 // Cases 12 and 13.
 fn sizes(out: &mut [u8; 65536], o: Output) -> Output {
-    let p = streams::put(out, o, sizing::most_in_a_cycle(1024, 10), 10);
-    let q = put_yes(out, p, sizing::has_room(1024, 10, 614));
-    let r = put_yes(out, q, sizing::has_room(1024, 10, 615));
-    let s = streams::put(out, r, sizing::most_in_a_cycle(3, 8), 10);
-    put_yes(out, s, sizing::has_room(3, 8, 1))
+    let p = text_streams::put(out, o, call_size::most_in_a_cycle(1024, 10), 10);
+    let q = put_yes(out, p, call_size::has_room(1024, 10, 614));
+    let r = put_yes(out, q, call_size::has_room(1024, 10, 615));
+    let s = text_streams::put(out, r, call_size::most_in_a_cycle(3, 8), 10);
+    put_yes(out, s, call_size::has_room(3, 8, 1))
 }
 
 fn main() {
     let mut out = io::large_buffer();
-    let a = show(&mut out, streams::empty(), refused(0));
+    let a = show(&mut out, text_streams::empty(), refused(0));
     let b = show(&mut out, a, refused(16385));
     let c = as_many_as_there_may_be(&mut out, b);
     let d = sizes(&mut out, c);
-    streams::flush(&out, d);
+    text_streams::flush(&out, d);
 }

@@ -1,4 +1,4 @@
 // The listing of document 01, as `heaprun` does it.
 fn main() {
-    running::run();
+    text_run::run();
 }

@@ -1,8 +1,8 @@
 // The list damaged a way at a time, exported so, and mended.
 use crate::night;
 use crate::night::Night;
-use exporting::Exported;
-use lines::Command;
+use call_export::Exported;
+use text_lines::Command;
 
 // What the export answered, and the night after it.
 pub(crate) struct Tried {

@@ -4,9 +4,9 @@ mod damage;
 mod night;
 mod printing;
 
-use blocks::Regs;
+use call_export::Exported;
 use damage::Tried;
-use exporting::Exported;
+use machine::Regs;
 use night::Night;
 
 // A night of which something was said, and whether all of that could be written.
@@ -46,10 +46,10 @@ fn finished(r: Regs) -> u32 {
 // What was done.
 fn told(t: Night, words: &[u32; 131072], colours: &[u32; 16384], bytes: &[u8; 16384]) -> bool {
     let r = t.regs;
-    let a = auditing::audit(r, words, colours, bytes);
+    let a = call_audit::audit(r, words, colours, bytes);
     printing::answer(
         b"16384 blocks at pace 10 are enough for 7002 in use: ",
-        sizing::has_room(16384, 10, 7002),
+        call_size::has_room(16384, 10, 7002),
     )
         && printing::number(
             b"rows stored, each followed by two blocks of garbage: ",

@@ -1,8 +1,8 @@
 // A night: rows are stored behind one another, with garbage made after each, and exported.
-use blocks::Regs;
-use exporting::Exported;
-use lines::Command;
-use lines::Said;
+use call_export::Exported;
+use machine::Regs;
+use text_lines::Command;
+use text_lines::Said;
 
 // The list while it grows: the registers, its first and its last block, the blocks of row 6,144 and of the row following it, what the
 // last call gave, and how many calls were refused.
@@ -42,7 +42,7 @@ pub(crate) fn call(
     bytes: &mut [u8; 16384],
     c: Command,
 ) -> Night {
-    after(t, lines::perform(t.regs, words, colours, bytes, c))
+    after(t, text_lines::perform(t.regs, words, colours, bytes, c))
 }
 
 // A night before its first call.
@@ -187,5 +187,5 @@ pub(crate) fn exported(
     bytes: &[u8; 16384],
     out: &mut [u32],
 ) -> Exported {
-    exporting::export(t.regs, words, colours, bytes, out, t.first, 0)
+    call_export::export(t.regs, words, colours, bytes, out, t.first, 0)
 }

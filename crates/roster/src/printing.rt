@@ -1,6 +1,6 @@
 // Lines of plain words. Each function answers whether all of its line could be written.
-use exporting::Exported;
-use exporting::Reason;
+use call_export::Exported;
+use call_export::Reason;
 
 fn say(text: &[u8]) -> bool {
     io::write_all(1, text)

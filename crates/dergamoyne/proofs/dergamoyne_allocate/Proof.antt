@@ -1,9 +1,9 @@
--- `dergamoyne::dergamoyne_allocate` meets its contract: the law of the outer calls, over `allocating::allocate`. Assumes nothing.
-use Rattle.blocks.specs.Allocate.{allocate}
-use Rattle.allocating.proofs.allocate.Symbol as core
-use Rattle.allocating.proofs.allocate.Met as core-thm
-use Rattle.lending.proofs.Back.{all}
-use Rattle.lending.proofs.Outer.{lends}
+-- `dergamoyne::dergamoyne_allocate` meets its contract: the law of the outer calls, over `call_allocate::allocate`. Assumes nothing.
+use Rattle.machine.specs.Allocate.{allocate}
+use Rattle.call_allocate.proofs.allocate.Symbol as core
+use Rattle.call_allocate.proofs.allocate.Met as core-thm
+use Rattle.theory_lending.proofs.Back.{all}
+use Rattle.theory_lending.proofs.Outer.{lends}
 use Rattle.dergamoyne.proofs.dergamoyne_allocate.Key.{name}
 use Rattle.dergamoyne.proofs.dergamoyne_allocate.Statement.{statement}
 use Rattle.dergamoyne.proofs.dergamoyne_allocate.Code as code

@@ -1,9 +1,9 @@
--- `dergamoyne::dergamoyne_format` meets its contract: the law of the outer calls, over `formatting::format`. Assumes nothing.
-use Rattle.blocks.specs.Format.{format}
-use Rattle.formatting.proofs.format.Symbol as core
-use Rattle.formatting.proofs.format.Met as core-thm
-use Rattle.lending.proofs.Back.{all}
-use Rattle.lending.proofs.Outer.{lends}
+-- `dergamoyne::dergamoyne_format` meets its contract: the law of the outer calls, over `call_format::format`. Assumes nothing.
+use Rattle.machine.specs.Format.{format}
+use Rattle.call_format.proofs.format.Symbol as core
+use Rattle.call_format.proofs.format.Met as core-thm
+use Rattle.theory_lending.proofs.Back.{all}
+use Rattle.theory_lending.proofs.Outer.{lends}
 use Rattle.dergamoyne.proofs.dergamoyne_format.Key.{name}
 use Rattle.dergamoyne.proofs.dergamoyne_format.Statement.{statement}
 use Rattle.dergamoyne.proofs.dergamoyne_format.Code as code

@@ -1,11 +1,11 @@
--- `dergamoyne::dergamoyne_set_root` meets its contract: the law of the outer calls, over `storing::set_root`. Assumes nothing.
+-- `dergamoyne::dergamoyne_set_root` meets its contract: the law of the outer calls, over `call_store::set_root`. Assumes nothing.
 use mathlib.Core.List.{[], _∷_}
-use Rattle.blocks.specs.Store.{setRoot}
-use Rattle.blocks.proofs.Storing.{root-keeps}
-use Rattle.storing.proofs.set_root.Symbol as core
-use Rattle.storing.proofs.set_root.Met as core-thm
-use Rattle.lending.proofs.Back.{grey, root, only}
-use Rattle.lending.proofs.Outer.{lends}
+use Rattle.machine.specs.Store.{setRoot}
+use Rattle.machine.proofs.Storing.{root-keeps}
+use Rattle.call_store.proofs.set_root.Symbol as core
+use Rattle.call_store.proofs.set_root.Met as core-thm
+use Rattle.theory_lending.proofs.Back.{grey, root, only}
+use Rattle.theory_lending.proofs.Outer.{lends}
 use Rattle.dergamoyne.proofs.dergamoyne_set_root.Key.{name}
 use Rattle.dergamoyne.proofs.dergamoyne_set_root.Statement.{statement}
 use Rattle.dergamoyne.proofs.dergamoyne_set_root.Code as code

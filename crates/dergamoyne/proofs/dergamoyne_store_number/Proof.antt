@@ -1,9 +1,9 @@
--- `dergamoyne::dergamoyne_store_number` meets its contract: the law of the outer calls, over `storing::store_number`. Assumes nothing.
-use Rattle.blocks.specs.Store.{storeNumber}
-use Rattle.storing.proofs.store_number.Symbol as core
-use Rattle.storing.proofs.store_number.Met as core-thm
-use Rattle.lending.proofs.Back.{nothing}
-use Rattle.lending.proofs.Outer.{lends}
+-- `dergamoyne::dergamoyne_store_number` meets its contract: the law of the outer calls, over `call_store::store_number`. Assumes nothing.
+use Rattle.machine.specs.Store.{storeNumber}
+use Rattle.call_store.proofs.store_number.Symbol as core
+use Rattle.call_store.proofs.store_number.Met as core-thm
+use Rattle.theory_lending.proofs.Back.{nothing}
+use Rattle.theory_lending.proofs.Outer.{lends}
 use Rattle.dergamoyne.proofs.Keeping.{number-keeps}
 use Rattle.dergamoyne.proofs.dergamoyne_store_number.Key.{name}
 use Rattle.dergamoyne.proofs.dergamoyne_store_number.Statement.{statement}

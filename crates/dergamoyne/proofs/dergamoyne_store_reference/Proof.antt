@@ -1,11 +1,11 @@
--- `dergamoyne::dergamoyne_store_reference` meets its contract: the law of the outer calls, over `storing::store_reference`. Assumes nothing.
+-- `dergamoyne::dergamoyne_store_reference` meets its contract: the law of the outer calls, over `call_store::store_reference`. Assumes nothing.
 use mathlib.Core.List.{[], _∷_}
-use Rattle.blocks.specs.Store.{storeReference}
-use Rattle.blocks.proofs.Storing.{reference-keeps}
-use Rattle.storing.proofs.store_reference.Symbol as core
-use Rattle.storing.proofs.store_reference.Met as core-thm
-use Rattle.lending.proofs.Back.{grey, only}
-use Rattle.lending.proofs.Outer.{lends}
+use Rattle.machine.specs.Store.{storeReference}
+use Rattle.machine.proofs.Storing.{reference-keeps}
+use Rattle.call_store.proofs.store_reference.Symbol as core
+use Rattle.call_store.proofs.store_reference.Met as core-thm
+use Rattle.theory_lending.proofs.Back.{grey, only}
+use Rattle.theory_lending.proofs.Outer.{lends}
 use Rattle.dergamoyne.proofs.dergamoyne_store_reference.Key.{name}
 use Rattle.dergamoyne.proofs.dergamoyne_store_reference.Statement.{statement}
 use Rattle.dergamoyne.proofs.dergamoyne_store_reference.Code as code

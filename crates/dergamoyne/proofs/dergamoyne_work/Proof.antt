@@ -1,9 +1,9 @@
--- `dergamoyne::dergamoyne_work` meets its contract: the law of the outer calls, over `working::work`. Assumes nothing.
-use Rattle.blocks.specs.Work.{work}
-use Rattle.working.proofs.work.Symbol as core
-use Rattle.working.proofs.work.Met as core-thm
-use Rattle.lending.proofs.Back.{all}
-use Rattle.lending.proofs.Outer.{lends}
+-- `dergamoyne::dergamoyne_work` meets its contract: the law of the outer calls, over `call_work::work`. Assumes nothing.
+use Rattle.machine.specs.Work.{work}
+use Rattle.call_work.proofs.work.Symbol as core
+use Rattle.call_work.proofs.work.Met as core-thm
+use Rattle.theory_lending.proofs.Back.{all}
+use Rattle.theory_lending.proofs.Outer.{lends}
 use Rattle.dergamoyne.proofs.dergamoyne_work.Key.{name}
 use Rattle.dergamoyne.proofs.dergamoyne_work.Statement.{statement}
 use Rattle.dergamoyne.proofs.dergamoyne_work.Code as code

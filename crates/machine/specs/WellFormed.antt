@@ -1,0 +1,86 @@
+-- A well-formed heap, as document 01 says it: a record with a part for each sentence.
+--     Block m b            b is a block number
+--     Live h b             b is an allocated block that isn't doomed
+--     Names h b x          a reference word of b holds x
+--     Listed next end a l  from a on, by next, the list is l and ends at end
+--     Exactly P next end a the list from a on ends, and has exactly the blocks of which P holds
+--     WellFormed h         the heap h is well-formed
+-- Assumes nothing.
+use Prim.Native.Nat.{ℕ, _+_, _≤_, _<_}
+use mathlib.Core.Path.{_≡_}
+use mathlib.Core.Logic.{_↔_, _≢_}
+use mathlib.Core.Bool.{true}
+use mathlib.Core.List.{List, [], _∷_, List·Memᴰ}
+use lib.ListN.{length}
+use Rattle.machine.specs.declared.Colour.{Colour}
+use Rattle.machine.specs.declared.Colour.the-variants.{White, Grey, Black, Free, Outside}
+use Rattle.machine.specs.declared.Standing.the-variants.{Live as live}
+use Rattle.machine.specs.Registers.{idle, marking, sweeping}
+use Rattle.machine.specs.Block.{wordOf, byteOf, bit}
+use Rattle.machine.specs.Colouring.{colourWord}
+use Rattle.machine.specs.Heap.{Heap, colourOf}
+use Rattle.machine.specs.Standing.{standingOf}
+use Rattle.machine.specs.Entry.{heapFits, legal}
+
+-- "Block numbers run from 2 to M + 1"
+pub record Block (m b : ℕ) : Type 0 where
+  pub low : 2 ≤ b
+  pub high : b ≤ m + 1
+
+-- a block of a colour
+pub record Coloured (h : Heap) (c : Colour) (b : ℕ) : Type 0 where
+  pub block : Block (h .regs .blocks) b
+  pub colour : colourOf h b ≡ c
+
+-- "an allocated block that isn't doomed"
+pub record Live (h : Heap) (b : ℕ) : Type 0 where
+  pub block : Block (h .regs .blocks) b
+  pub standing : standingOf h b ≡ live
+
+-- "a reference word of [b] names it"
+pub record Names (h : Heap) (b x : ℕ) : Type 0 where
+  pub word : ℕ
+  pub low : word ≤ 7
+  pub set : bit (byteOf (h .bytes) b) word ≡ true
+  pub holds : wordOf (h .words) b word ≡ x
+
+pub data Listed (next : ℕ → ℕ) (end : ℕ) : ℕ → List ℕ → Type 0 where
+  ends : {a : ℕ} → a ≡ end → Listed next end a []
+  goes : {a : ℕ} {l : List ℕ} → a ≢ end → Listed next end (next a) l → Listed next end a (a ∷ l)
+
+pub record Exactly (P : ℕ → Type 0) (next : ℕ → ℕ) (end a : ℕ) : Type 0 where
+  pub blocks : List ℕ
+  pub listed : Listed next end a blocks
+  pub members : (b : ℕ) → List·Memᴰ b blocks ↔ P b
+
+-- "its words 1 to 7 are 0"; "A free block has reference byte 0"
+pub record LaidOut (h : Heap) (b : ℕ) : Type 0 where
+  pub byte : byteOf (h .bytes) b ≡ 0
+  pub words : (w : ℕ) → 1 ≤ w → w ≤ 7 → wordOf (h .words) b w ≡ 0
+
+pub record WellFormed (h : Heap) : Type 0 where
+  -- "lengths, M and U fit"
+  pub fitting : heapFits h ≡ true
+  -- "registers and colours are legal"
+  pub registers : legal (h .regs) ≡ true
+  pub colours : (b : ℕ) → Block (h .regs .blocks) b → colourOf h b ≢ Outside
+  -- "the grey list ends and has exactly the grey blocks"
+  pub greys : Exactly (Coloured h Grey) (colourWord (h .colours)) 1 (h .regs .grey)
+  -- "the free list ends, has exactly the free blocks, laid out as above, and free count of them"
+  pub frees : Exactly (Coloured h Free) (λ b. wordOf (h .words) b 0) 0 (h .regs .free)
+  pub laid : (b : ℕ) → Coloured h Free b → LaidOut h b
+  pub counted : length (frees .blocks) ≡ h .regs .count
+  -- "grey head is 1 and no block is grey outside marking"
+  pub greyHead : h .regs .phase ≢ marking → h .regs .grey ≡ 1
+  pub greyless : h .regs .phase ≢ marking → (b : ℕ) → Coloured h Grey b → ⊥
+  -- "no block is black when idle"
+  pub blackless : h .regs .phase ≡ idle → (b : ℕ) → Coloured h Black b → ⊥
+  -- "while sweeping no block below the position is black"
+  pub swept : h .regs .phase ≡ sweeping → (b : ℕ) → Coloured h Black b → b < h .regs .position → ⊥
+  -- "while marking the root is not white and no black block names a white one"
+  pub rootMarked : h .regs .phase ≡ marking → Coloured h White (h .regs .root) → ⊥
+  pub namedMarked : h .regs .phase ≡ marking → (b x : ℕ) → Coloured h Black b → Names h b x → Coloured h White x → ⊥
+  -- "The root is 0 or names an allocated block that isn't doomed."
+  pub rootLive : h .regs .root ≢ 0 → Live h (h .regs .root)
+  -- "Every reference in an allocated block that isn't doomed is 0 or names such a block."
+  pub namedLive : (b x : ℕ) → Live h b → Names h b x → x ≢ 0 → Live h x

@@ -1,0 +1,155 @@
+// The colour buffer: what a colour word means, and the grey list. Of the calls' code only
+// this crate reads or writes a colour word; part_step::step is told one and knows its values.
+pub mod layout; // layout.rt: what the audit asks of the colours and of the grey list
+
+use machine::Colour;
+use machine::Seen;
+ghost use mathlib.Core.Path.{_≡_};
+ghost use mathlib.Core.Logic.{_≢_};
+ghost use Prim.Native.Nat.{_≤_};
+ghost use lib.ListN.{length};
+ghost use Rattle.machine.specs.WellFormed.{Block};
+ghost use Rattle.machine.specs.Block.{isBlock};
+ghost use Rattle.machine.specs.Colouring.{colour, colourWord, paint, toGrey, toBlack, greyWhite, freeColour, freshColours};
+ghost use Rattle.machine.specs.Seen.{seen};
+ghost use Rattle.machine.specs.Tests.{if_then_else_};
+
+// The colour words that are no link.
+pub const WHITE: u32 = 0;
+
+pub const BLACK: u32 = 4_294_967_295;
+
+pub const FREE: u32 = 4_294_967_294;
+
+// Whether b is a block number in a heap of m blocks.
+pub fn is_block(m: u32, b: u32) -> bool
+    requires { ⌜ m ≤ 16384 ⌝ }
+    ensures { λ r. ⌜ r ≡ isBlock m b ⌝ }
+{
+    2 <= b && b - 2 < m
+}
+
+// What a colour word means in a heap of m blocks.
+pub fn colour(m: u32, word: u32) -> Colour
+    requires { ⌜ m ≤ 16384 ⌝ }
+    ensures { λ r. ⌜ r ≡ colour m word ⌝ }
+{
+    match word {
+        0 => Colour::White,
+        4294967295 => Colour::Black,
+        4294967294 => Colour::Free,
+        _ => {
+            if word <= m + 1 {
+                Colour::Grey
+            } else {
+                Colour::Outside
+            }
+        }
+    }
+}
+
+// The colour word of the block b.
+pub fn word_of(colours: &[u32], b: u32) -> u32
+    requires { ⌜ Block (length (now colours)) b ⌝ }
+    ensures { λ r. ⌜ r ≡ colourWord (now (colours .entry)) b ⌝ }
+{
+    colours[b as usize - 2]
+}
+
+// The block b gets the colour word.
+pub fn paint(colours: &mut [u32], b: u32, word: u32)
+    requires { ⌜ Block (length (now colours)) b ⌝ }
+    ensures { λ _. ⌜ now (colours .exit) ≡ paint b word (now (colours .entry)) ⌝ }
+{
+    colours[b as usize - 2] = word;
+}
+
+// The colour word of b, or white where b is no block.
+pub fn word_met(m: u32, colours: &[u32], b: u32) -> u32
+    requires { ⌜ (m ≤ 16384) × (length (now colours) ≡ m) ⌝ }
+    ensures { λ r. ⌜ r ≡ (if isBlock m b then colourWord (now (colours .entry)) b else 0) ⌝ }
+{
+    if is_block(m, b) {
+        return word_of(colours, b);
+    }
+    0
+}
+
+// Whether a block of the colour is free.
+pub fn free_colour(c: Colour) -> bool
+    ensures { λ r. ⌜ r ≡ freeColour c ⌝ }
+{
+    match c {
+        Colour::White => false,
+        Colour::Grey => false,
+        Colour::Black => false,
+        Colour::Free => true,
+        Colour::Outside => false,
+    }
+}
+
+// The block b goes to the front of the grey list that starts at head. Answers the head afterwards.
+pub fn to_grey(head: u32, colours: &mut [u32], b: u32) -> u32
+    requires { ⌜ Block (length (now colours)) b ⌝ }
+    ensures { λ r. ⌜ (record { head = r; cells = now (colours .exit) }) ≡ toGrey b (record { head = head; cells = now (colours .entry) }) ⌝ }
+{
+    paint(colours, b, head);
+    b
+}
+
+// The first block of the grey list, head, is taken off and made black. Answers the head afterwards.
+pub fn to_black(head: u32, colours: &mut [u32]) -> u32
+    requires { ⌜ Block (length (now colours)) head ⌝ }
+    ensures { λ r. ⌜ (record { head = r; cells = now (colours .exit) }) ≡ toBlack (record { head = head; cells = now (colours .entry) }) ⌝ }
+{
+    let next = word_of(&colours[..], head);
+    paint(colours, head, BLACK);
+    next
+}
+
+// b, which is 0 or a block, goes to the front of the grey list that starts at head if it is a white block. Answers the head afterwards.
+pub fn grey_white(head: u32, colours: &mut [u32], b: u32) -> u32
+    requires { ⌜ (b ≢ 0 → Block (length (now colours)) b) ⌝ }
+    ensures { λ r. ⌜ (record { head = r; cells = now (colours .exit) }) ≡ greyWhite (length (now (colours .entry))) b (record { head = head; cells = now (colours .entry) }) ⌝ }
+{
+    if b != 0 {
+        if word_of(&colours[..], b) == 0 {
+            return to_grey(head, colours, b);
+        }
+    }
+    head
+}
+
+// What the reference b is to the block that is marked.
+pub fn seen(m: u32, colours: &[u32], b: u32) -> Seen
+    requires { ⌜ (m ≤ 16384) × (length (now colours) ≡ m) ⌝ }
+    ensures { λ r. ⌜ r ≡ seen m (now (colours .entry)) b ⌝ }
+{
+    if b == 0 {
+        return Seen::Settled;
+    }
+    if is_block(m, b) {
+        let word = word_of(colours, b);
+        if word == WHITE {
+            return Seen::ToGrey;
+        }
+        if word == BLACK {
+            return Seen::Settled;
+        }
+        if word <= m + 1 {
+            return Seen::Settled;
+        }
+    }
+    Seen::Damaged
+}
+
+// Every block free: what Format makes of the colour buffer.
+pub fn fresh(colours: &mut [u32])
+    ensures { λ _. ⌜ now (colours .exit) ≡ freshColours (length (now (colours .entry))) ⌝ }
+{
+    let mut i = 0;
+    while i < colours.len() {
+        colours[i] = FREE;
+        i += 1;
+    }
+}

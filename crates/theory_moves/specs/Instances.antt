@@ -1,0 +1,164 @@
+-- A heap of one block, out of reach, and a cycle over it: with the premise it is freed, without it it stays.
+--     small p q r t        the heap of one block, which names nothing: phase, position, root and the block's colour
+--     small-sound          idle, white and out of reach, it is sound
+--     out-of-reach         the block is out of reach
+--     started, turning, clearing, sparing, saving, blackening     the moves
+--     plain, plain-freed, plain-exact     a cycle with no write: the block is freed, after 3 units
+--     FreeAlong, freed-along     a block that a run frees is free somewhere along it
+--     rescue, rescue-kept, rescue-begins, rescue-improper     a cycle in which the root is set to that block, then out of reach: it is not freed
+-- Assumes nothing.
+use Prim.Native.Nat.{ℕ, _+_}
+use mathlib.Core.Path.{_≡_, refl, sym}
+use mathlib.Core.Logic.{_≢_, _⊎_, inl, inr}
+use mathlib.Core.Bool.{false}
+use native.Mathlib.Omega.{arith}
+use Rattle.theory_reach.specs.Splits.{never}
+use Rattle.theory_reach.specs.Sums.{Block}
+use Rattle.theory_reach.specs.Reaching.{reach-closed}
+use Rattle.theory_moves.specs.Tints.{Tint, White, Grey, Black, Free, turned, stayed}
+use Rattle.theory_moves.specs.Heaps.{Abs, named, ref, span, Reached, Sound, off-sweep}
+use Rattle.theory_moves.specs.Moves.{SameCells, Begin, Mark, Turn, freeing, whitening, ending, Sweep, SetRoot, mark, turn, sweep, setRoot}
+use Rattle.theory_moves.specs.Runs.{Run, rest, step, units, marks, begins, ProperRun, FreedIn, freed-now, freed-later}
+use Rattle.theory_moves.specs.Garbage.{garbage-goes}
+
+abbrev pub small : ℕ → ℕ → ℕ → Tint → Abs
+small p q r t =
+    record { phase = p; position = q; root = r; tint = λ b. t; word = λ b w. 0; isRef = λ b w. false }
+
+block : Block 1 2
+block = record { low = omega arith; high = omega arith }
+
+two : {c : ℕ} → Block 1 c → c ≡ 2
+two l = omega arith
+
+same : {p q r p′ q′ r′ : ℕ} {t t′ : Tint} (b : ℕ) → SameCells (small p q r t) (small p′ q′ r′ t′) b
+same b = record { words = λ w. refl; bits = λ w. refl }
+
+pub small-sound : Sound 1 (small 0 0 0 White)
+unfolding named
+small-sound =
+    record {
+      idleGrey = λ p b l z. never (cc);
+      idleBlack = λ p b l z. never (cc);
+      rootMarked = λ p n. absurd (n refl);
+      namedMarked = λ p. absurd (omega arith);
+      sweptGrey = λ p. absurd (omega arith);
+      sweptBlack = λ p. absurd (omega arith);
+      rootLive = λ n. absurd (n refl);
+      namedLive = λ b w x l e n. absurd (n (sym e));
+      freeNames = λ b w l f. refl;
+    }
+
+pub out-of-reach : (p q : ℕ) (t : Tint) {x : ℕ} → Reached (small p q 0 t) x → ⊥
+unfolding named
+out-of-reach p q t =
+    reach-closed 0 (ref (small p q 0 t)) (λ x. ⊥) (λ x e n. n e) (λ b w x z e n. z)
+
+pub started : Begin 1 (small 0 0 0 White) (small 1 0 0 White)
+started =
+    record {
+      before = refl;
+      after = refl;
+      root = refl;
+      tints = λ b l. stayed (λ e. absurd (omega arith)) refl;
+      cells = λ b l. same b;
+    }
+
+pub turning : (r : ℕ) (t : Tint) → t ≢ Grey → Turn 1 (small 1 0 r t) (small 2 2 r t)
+turning r t n =
+    record { before = refl; after = refl; position = refl; root = refl; none = λ b l. n; tints = λ b l. refl; cells = λ b l. same b }
+
+-- the last sweep move, on the one block
+pub clearing : Sweep 1 (small 2 2 0 White) (small 0 0 0 Free)
+unfolding span
+clearing =
+    record {
+      before = refl;
+      block = block;
+      short = omega arith;
+      onward = ending refl refl;
+      root = refl;
+      here = freeing refl refl (λ w. refl);
+      tints = λ c l n. absurd (n (two l));
+      cells = λ c l n. same c;
+    }
+
+pub sparing : Sweep 1 (small 2 2 2 Black) (small 0 0 2 White)
+unfolding span
+sparing =
+    record {
+      before = refl;
+      block = block;
+      short = omega arith;
+      onward = ending refl refl;
+      root = refl;
+      here = whitening refl refl (same 2);
+      tints = λ c l n. absurd (n (two l));
+      cells = λ c l n. same c;
+    }
+
+-- the root is set to the block, which is white and live, and out of reach: the barrier greys it
+pub saving : SetRoot 1 2 (small 1 0 0 White) (small 1 0 2 Grey)
+saving =
+    record {
+      steady = record { phase = refl; position = refl };
+      root = refl;
+      target = λ n. off-sweep (λ z. absurd (omega arith)) block (λ z. never (cc));
+      tints = λ c l. turned (record { phase = refl; target = two l }) refl refl;
+      cells = λ c l. same c;
+    }
+
+pub blackening : Mark 1 2 (small 1 0 2 Grey) (small 1 0 2 Black)
+blackening =
+    record {
+      before = refl;
+      after = refl;
+      root = refl;
+      block = block;
+      grey = refl;
+      black = refl;
+      tints = λ c l n. absurd (n (two l));
+      cells = λ c l. same c;
+    }
+
+abbrev pub plain : Run 1 (small 1 0 0 White) (small 0 0 0 Free)
+plain = step (turn (turning 0 White (λ z. never (cc)))) (step (sweep clearing) rest)
+
+pub plain-freed : FreedIn 1 2 (small 1 0 0 White) (small 0 0 0 Free) plain
+plain-freed =
+    garbage-goes small-sound started block (λ z. never (cc)) (out-of-reach 0 0 White) plain refl
+    ((λ z. absurd (z refl)), ((λ z. absurd (z refl)), tt))
+    refl
+
+pub plain-exact : 1 + units plain ≡ 2 + marks plain + 1
+plain-exact = refl
+
+abbrev pub rescue : Run 1 (small 1 0 0 White) (small 0 0 2 White)
+rescue =
+    step (setRoot 2 saving) (step (mark 2 blackening) (step (turn (turning 2 Black (λ z. never (cc)))) (step (sweep sparing) rest)))
+
+-- a block that a run frees is free somewhere along it
+abbrev pub FreeAlong : {M : ℕ} {h k : Abs} → ℕ → Run M h k → Type 0
+FreeAlong g rest = ⊥
+FreeAlong g (step {i = i} m r) = (i .tint g ≡ Free) ⊎ FreeAlong g r
+
+pub freed-along : {M g : ℕ} {h k : Abs} {r : Run M h k} → FreedIn M g h k r → FreeAlong g r
+freed-along (freed-now m w a f) = inl f
+freed-along (freed-later m d) = inr (freed-along d)
+
+pub rescue-kept : FreedIn 1 2 (small 1 0 0 White) (small 0 0 2 White) rescue → ⊥
+rescue-kept d = go (freed-along d)
+  where
+    go : FreeAlong 2 rescue → ⊥
+    go (inl e) = never (cc)
+    go (inr (inl e)) = never (cc)
+    go (inr (inr (inl e))) = never (cc)
+    go (inr (inr (inr (inl e)))) = never (cc)
+    go (inr (inr (inr (inr z)))) = z
+
+-- all that garbage-goes asks for holds of it, but for this
+pub rescue-improper : ProperRun rescue → ⊥
+rescue-improper p = out-of-reach 1 0 White (p .0 (λ z. absurd (omega arith)))
+
+pub rescue-begins : begins rescue ≡ 0
+rescue-begins = refl

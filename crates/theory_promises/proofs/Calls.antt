@@ -1,0 +1,126 @@
+-- What is known of each call: the one place that looks at which call it is.
+--     format-known, work-known, allocate-known     Format, Work and Allocate; the others go by their kind (`quiet`, `acts-once`)
+--     known                    each call
+--     calls-are-deeds          a call that doesn't make the heap anew is exactly its deeds
+--     deeds-allowed            each of them is allowed when it is done
+-- Assumes nothing.
+use Prim.Native.Nat.{ℕ, _≤_}
+use mathlib.Core.Path.{_≡_, refl, sym, subst}
+use mathlib.Core.Bool.{Bool, true, _&&_}
+use mathlib.Core.List.{[], _∷_, map}
+use native.Mathlib.Omega.{arith}
+use lib.Dec.{eqb, leb}
+use lib.ListN.{length, replicate}
+use borrow.Author.Tests.{leb-true}
+use Rattle.machine.specs.declared.ReadAnswer.{ReadAnswer}
+use Rattle.machine.specs.Tests.{if_then_else_, _▷_}
+use Rattle.machine.specs.Heap.{Heap}
+use Rattle.machine.specs.Entry.{numbersFit, lengthsFit, fits, entry, holderPlace}
+use Rattle.machine.specs.Answers.{refuse, done}
+use Rattle.machine.specs.Units.{stopped}
+use Rattle.machine.specs.Format.{formatted, format}
+use Rattle.machine.specs.Read.{readRefusal, readAnswer, read}
+use Rattle.machine.specs.Store.{storeRefusal, rootRefusal, storeNumber, storeReference, setRoot}
+use Rattle.machine.specs.Allocate.{unitsDue, takeRefusal, allocated, allocate}
+use Rattle.machine.specs.Work.{countRefusal, worked, work}
+use Rattle.machine.specs.Audit.{audit}
+use Rattle.machine.specs.WellFormed.{WellFormed}
+use Rattle.machine.specs.Session.{Call, plainly, does}
+use Rattle.machine.specs.Session.Call.{Format, Read, Look, StoreNumber, StoreReference, SetRoot, Allocate, Work, Audit}
+use Rattle.machine.proofs.Tests.{both-true, if-ind}
+use Rattle.machine.proofs.Entering.{first-zero}
+use Rattle.machine.proofs.Allocating.{holder-zero}
+use Rattle.theory_promises.specs.Deeds.{aNumber, aReference, aRoot, aTake, acted, aUnit, anAct, deed, after, AllAllowed}
+use Rattle.theory_promises.specs.Plans.{acting, anewUnless, actsUnless, plan, deeds, Resets}
+use Rattle.theory_promises.specs.Known.{Keeps, Known}
+use Rattle.theory_promises.proofs.Viewing.{wf-shape}
+use Rattle.theory_promises.proofs.TakingMoves.{take-sound}
+use Rattle.theory_promises.proofs.FreshHeap.{fresh-formed}
+use Rattle.theory_promises.proofs.RunMoves.{units-worked}
+use Rattle.theory_promises.proofs.Planning.{allowed-append, units-allowed, on-test, quiet, acts-once, by-units, by-none, by-acts}
+use Rattle.theory_promises.proofs.Refusing.{Fine, small, fine-then, entry-fine, place-fine, count-fine, read-fine, store-fine, root-fine, take-wants}
+
+-- the numbers that fit
+fit-numbers : (m u lw lc lb : ℕ) → fits m u lw lc lb ≡ true → (1 ≤ m) × (m ≤ 16384) × (u ≤ 65535)
+unfolding fits numbersFit
+fit-numbers m u lw lc lb e =
+    let a = both-true (numbersFit m u) (lengthsFit m lw lc lb) e .0 in
+    let b = both-true (leb 1 m) (leb m 16384 && leb u 65535) a in
+    let c = both-true (leb m 16384) (leb u 65535) (b .1) in
+    (leb-true 1 m (b .0), leb-true m 16384 (c .0), leb-true u 65535 (c .1))
+
+format-known : (m u : ℕ) (h : Heap) → Known (Format m u) h
+unfolding plan does format
+format-known m u h =
+    on-test (λ (t : Bool). Keeps (anewUnless ((if t then done 0 (formatted m u) else refuse 1 h) .answer .refusal)) h (if t then done 0 (formatted m u) else refuse 1 h))
+    (fits m u (length (h .words)) (length (h .colours)) (length (h .bytes)))
+    (λ t.
+    record {
+      anew = λ z. let n = fit-numbers m u _ _ _ t in fresh-formed m u (n .0) (n .1) (n .2);
+      whole = λ z. absurd (z refl);
+      allowed = tt;
+      paid = omega arith;
+      few = omega arith;
+      undamaged = λ z. absurd (omega arith);
+      wanting = λ z. absurd (omega arith);
+    })
+    (λ t. quiet 0 h (refuse 1 h) refl (small 1 (omega arith)))
+
+module _ (h : Heap) (f : WellFormed h) where
+  read-answer : (b w : ℕ) → Fine (read b w h .answer .refusal)
+  unfolding read readAnswer
+  read-answer b w =
+      if-ind (λ (x : ReadAnswer). Fine (x .refusal)) (eqb (readRefusal b w h) 0) (λ t. small 0 (omega arith)) (λ t. read-fine h (wf-shape h f) b w)
+
+  work-known : (n : ℕ) → Known (Work n) h
+  unfolding plan does work
+  work-known n =
+      by-units h f n (entry h ▷ countRefusal n) 0 (λ k. []) worked (fine-then _ _ (entry-fine h (wf-shape h f)) (λ e. count-fine n))
+      (λ z. by-none h f n 0 0 0 (λ y. absurd (omega arith)) (λ y. absurd (omega arith)))
+
+  module _ (b w : ℕ) where
+    abbrev due : ℕ
+    due = unitsDue (h .regs)
+
+    abbrev j : Heap
+    j = after (replicate due aUnit) h
+
+    -- an allocation once its units are done
+    take-known : holderPlace (h .regs .blocks) b w ≡ 0
+        → Keeps (acting 1 due (actsUnless (takeRefusal b j) (aTake b w ∷ []))) h (allocated b w (stopped 0 due j))
+    unfolding allocated _▷_ after deed acted
+    take-known l =
+        let u = units-worked (h .regs .blocks) due h refl f in
+        let s = wf-shape j (u .formed) in
+        let place : holderPlace (j .regs .blocks) b w ≡ 0 = subst (λ (m : ℕ). holderPlace m b w ≡ 0) (sym (u .blocks)) l in
+        by-acts h f due (takeRefusal b j) 1 (j .regs .free) (aTake b w ∷ []) (λ z. ((place, z), tt)) (omega arith) (omega arith)
+        (take-sound j s b (λ z. holder-zero b w refl place z .0))
+        (λ y. (omega arith, let c = take-wants j s b y in omega arith))
+
+    allocate-known : Known (Allocate b w) h
+    unfolding plan does allocate
+    allocate-known =
+        by-units h f due (entry h ▷ holderPlace (h .regs .blocks) b w) 1 (λ k. actsUnless (takeRefusal b k) (aTake b w ∷ [])) (allocated b w)
+        (fine-then _ _ (entry-fine h (wf-shape h f)) (λ e. place-fine (h .regs .blocks) b w))
+        (λ z. take-known (first-zero (entry h) (holderPlace (h .regs .blocks) b w) z .1))
+
+pub known : (c : Call) (h : Heap) → WellFormed h → Known c h
+unfolding plan does read audit storeNumber storeReference setRoot acted
+known (Format m u) h f = format-known m u h
+known (Read b w) h f = quiet 0 h (plainly (read b w h)) refl (read-answer h f b w)
+known (Look b) h f = quiet 0 h _ refl (small 0 (omega arith))
+known (StoreNumber b w v) h f = acts-once (readRefusal b w h) (aNumber b w v) h refl (λ z. z) (read-fine h (wf-shape h f) b w)
+known (StoreReference b w t) h f = acts-once (storeRefusal b w t h) (aReference b w t) h refl (λ z. z) (store-fine h (wf-shape h f) b w t)
+known (SetRoot t) h f = acts-once (rootRefusal t h) (aRoot t) h refl (λ z. z) (root-fine h (wf-shape h f) t)
+known (Allocate b w) h f = allocate-known h f b w
+known (Work n) h f = work-known h f n
+known Audit h f = quiet 0 h (audit h) refl (small 0 (omega arith))
+
+module _ (h : Heap) (f : WellFormed h) (c : Call) where
+  pub calls-are-deeds : (Resets c h → ⊥) → does c h .heap ≡ after (deeds c h) h
+  calls-are-deeds n = known c h f .whole n
+
+  pub deeds-allowed : AllAllowed (deeds c h) h
+  deeds-allowed =
+      let p = plan c h in
+      allowed-append (replicate (p .units) aUnit) (map anAct (p .acts)) h (units-allowed (p .units) h) (known c h f .allowed)

@@ -1,0 +1,75 @@
+-- The free count is the number of free blocks, in the machine and in its view.
+--     count-sum                a count and a sum of weights agree where they agree block by block
+--     free-count               the number of blocks that are free in the view is the free count
+--     not-all-free             where some block is allocated the free count is below M
+-- Assumes nothing.
+use Prim.Native.Nat.{ℕ, zero, suc, _+_, _≤_, _<_}
+use mathlib.Core.Path.{_≡_, refl, sym, _∙_, ap}
+use mathlib.Core.Logic.{_≢_}
+use mathlib.Core.Bool.{Bool}
+use native.Mathlib.Numerals.{add-one}
+use native.Mathlib.Omega.{arith}
+use Rattle.machine.specs.declared.Colour.the-variants.{Free}
+use Rattle.machine.specs.Tests.{if_then_else_}
+use Rattle.machine.specs.Heap.{Heap, colourOf}
+use Rattle.machine.specs.Audit.{countFrom, isFree}
+use Rattle.machine.specs.WellFormed.{Block, Coloured}
+use Rattle.machine.proofs.Tests.{by-test, clash}
+use Rattle.theory_audit.proofs.Frees.{nextFree, free-tests}
+use Rattle.theory_audit.proofs.Exact.{exact-length}
+use Rattle.theory_reach.specs.Sums.{sum, Within, total, total-down, total-ones}
+use Rattle.theory_moves.specs.Tints.{Tint}
+use Rattle.theory_moves.specs.Tints as tints
+use Rattle.theory_moves.specs.Bounds.{lies, unused}
+use Rattle.theory_promises.specs.View.{tintOf, view, Shape}
+use Rattle.theory_promises.proofs.Viewing.{there}
+use Rattle.theory_promises.proofs.Recolouring.{free-of, of-free}
+
+abbrev pub one : Bool → ℕ
+one t = if t then 1 else 0
+
+-- a count and a sum of weights agree where they agree block by block
+pub count-sum : (p : ℕ → Bool) (f : ℕ → ℕ) (n b : ℕ) → ((c : ℕ) → Within n b c → f c ≡ one (p c)) → sum n b f ≡ countFrom p n b
+unfolding sum countFrom
+count-sum p f zero b same = refl
+count-sum p f (suc n) b same =
+    let r = count-sum p f n (suc b) (λ c l. same c (record { low = omega arith; high = omega arith })) in
+    rw (add-one b) (ap (λ (x : ℕ). x + sum n (suc b) f) (same b (record { low = omega arith; high = omega arith })) ∙ ap (λ (x : ℕ). one (p b) + x) r)
+
+free-weight : (t : Tint) → t ≡ tints.Free → lies t ≡ 1
+free-weight t e = rw e refl
+
+other-weight : (t : Tint) → t ≢ tints.Free → lies t ≡ 0
+other-weight tints.White n = refl
+other-weight tints.Grey n = refl
+other-weight tints.Black n = refl
+other-weight tints.Free n = absurd (n refl)
+
+most : (t : Tint) → lies t ≤ 1
+most tints.White = omega arith
+most tints.Grey = omega arith
+most tints.Black = omega arith
+most tints.Free = omega arith
+
+module _ (h : Heap) (p : Shape h) where
+  abbrev m : ℕ
+  m = h .regs .blocks
+
+  weight : (c : ℕ) → Block m c → lies (tintOf (colourOf h c)) ≡ one (isFree m (h .colours) c)
+  weight c l =
+      by-test (isFree m (h .colours) c)
+      (λ t. free-weight _ (free-of {h = h} (free-tests h c .0 t)) ∙ sym (ap one t))
+      (λ t. other-weight _ (λ z. clash (free-tests h c .1 (of-free {h = h} l (p .colours c l) z)) t) ∙ sym (ap one t))
+
+  pub free-count : unused m (view h) ≡ h .regs .count
+  unfolding total
+  free-count =
+      count-sum (isFree m (h .colours)) (λ b. lies (tintOf (colourOf h b))) m 2 (λ c l. weight c (record { low = omega arith; high = omega arith }))
+      ∙ sym (exact-length (Coloured h Free) (isFree m (h .colours)) (free-tests h) (nextFree h) 0 m (λ b f. f .block) (λ f. let l = f .block in omega arith) (h .regs .free) (p .frees)) ∙ p .counted
+
+  pub not-all-free : (b : ℕ) → Block m b → tintOf (colourOf h b) ≢ tints.Free → unused m (view h) < m
+  not-all-free b l n =
+      let e = total-down m (λ c. lies (tintOf (colourOf h c))) (λ c. 1) b (there l) (λ c k o. most (tintOf (colourOf h c))) in
+      let z = other-weight (tintOf (colourOf h b)) n in
+      let f = total-ones m (λ c. 1) (λ c k. refl) in
+      omega arith

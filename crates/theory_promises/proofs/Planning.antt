@@ -1,0 +1,125 @@
+-- From a call's plan to what is known of it: what calls of one kind have in common.
+--     after-append, allowed-append, units-allowed     deeds one list after another
+--     on-test                  what holds by a test, where it came out true and where it came out false
+--     quiet                    a call that changes nothing
+--     acts-once                a call that is refused or does one act that takes nothing
+--     by-units                 a call that is refused or does units first: what is left to show is what it does after them
+--     by-none, by-acts         which is nothing, or acts that may be refused then
+-- Assumes nothing.
+use Prim.Native.Nat.{ℕ, zero, suc, _*_, _≤_, _<_}
+use mathlib.Core.Path.{_≡_, refl, sym, subst}
+use mathlib.Core.Bool.{Bool, true, false}
+use mathlib.Core.Logic.{_≢_}
+use mathlib.Core.List.{List, [], _∷_, _++_, map}
+use native.Mathlib.Omega.{arith}
+use lib.Dec.{eqb}
+use lib.ListN.{replicate}
+use borrow.Author.Tests.{eqb-true}
+use Rattle.machine.specs.Tests.{if_then_else_}
+use Rattle.machine.specs.Heap.{Heap}
+use Rattle.machine.specs.Answers.{Given, answering, refuse, done, unless}
+use Rattle.machine.specs.Units.{RunEnd, stopped, run}
+use Rattle.machine.specs.Allocate.{unitsDue}
+use Rattle.machine.specs.WellFormed.{WellFormed}
+use Rattle.machine.proofs.Tests.{clash}
+use Rattle.theory_promises.specs.Deeds.{Act, acted, Allows, takes, Deed, aUnit, anAct, deed, after, AllAllowed, takesIn}
+use Rattle.theory_promises.specs.Plans.{acting, nothing, actUnless, actsUnless, unitsUnless}
+use Rattle.theory_promises.specs.Known.{Keeps}
+use Rattle.theory_promises.proofs.RunMoves.{run-is}
+use Rattle.theory_promises.proofs.Refusing.{Fine}
+
+pub after-append : (ds es : List Deed) (h : Heap) → after (ds ++ es) h ≡ after es (after ds h)
+unfolding after
+after-append [] es h = refl
+after-append (d ∷ ds) es h = after-append ds es (deed d h)
+
+pub allowed-append : (ds es : List Deed) (h : Heap) → AllAllowed ds h → AllAllowed es (after ds h) → AllAllowed (ds ++ es) h
+unfolding after
+allowed-append [] es h a b = b
+allowed-append (d ∷ ds) es h a b = (a .0, allowed-append ds es (deed d h) (a .1) b)
+
+pub units-allowed : (n : ℕ) (h : Heap) → AllAllowed (replicate n aUnit) h
+units-allowed zero h = tt
+units-allowed (suc n) h = (tt, units-allowed n (deed aUnit h))
+
+-- what holds by a test, where the test came out true and where it came out false
+pub on-test : (P : Bool → Type 0) (t : Bool) → (t ≡ true → P true) → (t ≡ false → P false) → P t
+on-test P true p q = p refl
+on-test P false p q = q refl
+
+pub quiet : (n : ℕ) (h : Heap) (g : Given) → g .heap ≡ h → Fine (g .answer .refusal) → Keeps (nothing n) h g
+unfolding after
+quiet n h g e r =
+    record {
+      anew = λ z. clash z refl;
+      whole = λ z. e;
+      allowed = tt;
+      paid = omega arith;
+      few = omega arith;
+      undamaged = r .eight;
+      wanting = λ z. absurd (r .seven z);
+    }
+
+pub acts-once : (r : ℕ) (a : Act) (h : Heap) → takes a ≡ 0 → (r ≡ 0 → Allows a h) → Fine r → Keeps (actUnless r a) h (unless r h (done 0 (acted a h)))
+unfolding unless after deed
+acts-once r a h z w x =
+    on-test (λ (t : Bool). Keeps (acting 0 0 (if t then a ∷ [] else [])) h (if t then done 0 (acted a h) else refuse r h)) (eqb r 0)
+    (λ t.
+    record {
+      anew = λ y. clash y refl;
+      whole = λ y. refl;
+      allowed = (w (eqb-true r 0 t), tt);
+      paid = rw z (omega arith);
+      few = omega arith;
+      undamaged = λ y. absurd (omega arith);
+      wanting = λ y. absurd (omega arith);
+    })
+    (λ t. quiet 0 h (refuse r h) refl x)
+
+module _ (h : Heap) (f : WellFormed h) (n : ℕ) where
+  abbrev k : Heap
+  k = after (replicate n aUnit) h
+
+  pub by-units : (r b : ℕ) (next : Heap → List Act) (give : RunEnd → Given) → Fine r
+      → (r ≡ 0 → Keeps (acting b n (next k)) h (give (stopped 0 n k)))
+      → Keeps (unitsUnless r b n next h) h (unless r h (give (run n 0 h)))
+  unfolding unless
+  by-units r b next give x y =
+      subst (λ (e : RunEnd). Keeps (acting b (if eqb r 0 then n else 0) (actsUnless r (next (e .heap)))) h (if eqb r 0 then give e else refuse r h))
+      (sym (run-is n h f))
+      (on-test (λ (t : Bool). Keeps (acting b (if t then n else 0) (if t then next k else [])) h (if t then give (stopped 0 n k) else refuse r h)) (eqb r 0)
+      (λ t. y (eqb-true r 0 t))
+      (λ t. quiet b h (refuse r h) refl x))
+
+  -- no acts
+  pub by-none : (r b v : ℕ) → r ≢ 8 → (r ≡ 7 → (unitsDue (h .regs) * b ≤ n) × (k .regs .count < b)) → Keeps (acting b n []) h (answering r v n k)
+  unfolding after
+  by-none r b v x y =
+      record {
+        anew = λ z. clash z refl;
+        whole = λ z. sym (after-append (replicate n aUnit) [] h);
+        allowed = tt;
+        paid = omega arith;
+        few = omega arith;
+        undamaged = x;
+        wanting = y;
+      }
+
+  -- the acts ys, unless they are refused by r
+  pub by-acts : (r b v : ℕ) (ys : List Act) → (r ≡ 0 → AllAllowed (map anAct ys) k)
+      → unitsDue (h .regs) * takesIn (map anAct ys) ≤ n → takesIn (map anAct ys) ≤ b
+      → r ≢ 8 → (r ≡ 7 → (unitsDue (h .regs) * b ≤ n) × (k .regs .count < b))
+      → Keeps (acting b n (actsUnless r ys)) h (if eqb r 0 then answering 0 v n (after (map anAct ys) k) else answering r 0 n k)
+  by-acts r b v ys a p q x y =
+      on-test (λ (t : Bool). Keeps (acting b n (if t then ys else [])) h (if t then answering 0 v n (after (map anAct ys) k) else answering r 0 n k)) (eqb r 0)
+      (λ t.
+      record {
+        anew = λ z. clash z refl;
+        whole = λ z. sym (after-append (replicate n aUnit) (map anAct ys) h);
+        allowed = a (eqb-true r 0 t);
+        paid = p;
+        few = q;
+        undamaged = λ z. absurd (omega arith);
+        wanting = λ z. absurd (omega arith);
+      })
+      (λ t. by-none r b 0 x y)

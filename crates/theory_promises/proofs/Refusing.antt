@@ -1,0 +1,113 @@
+-- The refusals on a well-formed heap: none is 8, and 7 is the free list's alone.
+--     Fine r                   the refusal number r is neither 7 nor 8
+--     small                    every number below 7 is fine
+--     fine-if, fine-then       a choice of two, and the first of two
+--     entry-fine, word-fine, place-fine, goal-fine, holder-fine, target-fine, count-fine     the tests one by one
+--     read-fine, store-fine, root-fine     those of the calls that take nothing
+--     take-wants               an allocation is refused by 7 only where no block is free
+-- Assumes nothing.
+use Prim.Native.Nat.{ℕ, _<_}
+use mathlib.Core.Path.{_≡_}
+use mathlib.Core.Logic.{_≢_}
+use mathlib.Core.Bool.{Bool, _&&_}
+use native.Mathlib.Omega.{arith}
+use lib.Dec.{eqb, leb}
+use borrow.Author.Tests.{eqb-true}
+use Rattle.machine.specs.declared.Standing.{Standing}
+use Rattle.machine.specs.declared.Standing.the-variants.{Live, Gone, Damaged}
+use Rattle.machine.specs.Tests.{if_then_else_, _▷_}
+use Rattle.machine.specs.Block.{isBlock}
+use Rattle.machine.specs.Heap.{Heap}
+use Rattle.machine.specs.Standing.{standingOf, refusalOf, holderRefusal, targetRefusal}
+use Rattle.machine.specs.Entry.{entry, wordRefusal, holderPlace, targetPlace, isBlockOrNone}
+use Rattle.machine.specs.Read.{readRefusal}
+use Rattle.machine.specs.Store.{storeRefusal, rootRefusal}
+use Rattle.machine.specs.Allocate.{takeRefusal}
+use Rattle.machine.specs.Work.{countRefusal}
+use Rattle.machine.specs.WellFormed.{Block}
+use Rattle.machine.proofs.Tests.{if-ind, by-eq}
+use Rattle.machine.proofs.Entering.{ready-entry, none-or-block}
+use Rattle.machine.proofs.Refusals.{word-zero, target-zero}
+use Rattle.theory_promises.specs.View.{Shape}
+use Rattle.theory_promises.proofs.TakingMoves.{list-first, holder-sound, target-sound}
+
+pub record Fine (r : ℕ) : Type 0 where
+  pub seven : r ≢ 7
+  pub eight : r ≢ 8
+
+pub small : (r : ℕ) → r < 7 → Fine r
+small r l = record { seven = λ z. absurd (omega arith); eight = λ z. absurd (omega arith) }
+
+pub fine-if : (t : Bool) {a b : ℕ} → Fine a → Fine b → Fine (if t then a else b)
+fine-if t a b = if-ind Fine t (λ e. a) (λ e. b)
+
+pub fine-then : (a b : ℕ) → Fine a → (a ≡ 0 → Fine b) → Fine (a ▷ b)
+unfolding _▷_
+fine-then a b p q = if-ind Fine (eqb a 0) (λ t. q (eqb-true a 0 t)) (λ t. p)
+
+pub count-fine : (n : ℕ) → Fine (countRefusal n)
+unfolding countRefusal
+count-fine n = fine-if (leb n 65535) (small 0 (omega arith)) (record { seven = λ z. absurd (omega arith); eight = λ z. absurd (omega arith) })
+
+pub word-fine : (m b w : ℕ) → Fine (wordRefusal m b w)
+unfolding wordRefusal
+word-fine m b w = fine-if (isBlock m b && leb w 7) (small 0 (omega arith)) (small 3 (omega arith))
+
+pub place-fine : (m b w : ℕ) → Fine (holderPlace m b w)
+unfolding holderPlace
+place-fine m b w = fine-if (eqb b 0 && eqb w 0) (small 0 (omega arith)) (word-fine m b w)
+
+pub goal-fine : (m t : ℕ) → Fine (targetPlace m t)
+unfolding targetPlace
+goal-fine m t = fine-if (isBlockOrNone m t) (small 0 (omega arith)) (small 4 (omega arith))
+
+-- a block's standing refuses by 5 or 6, or by 8
+not-seven : (n : ℕ) → n < 7 → (s : Standing) → refusalOf n s ≢ 7
+not-seven n l Live z = absurd (omega arith)
+not-seven n l Gone z = absurd (omega arith)
+not-seven n l Damaged z = absurd (omega arith)
+
+module _ (h : Heap) (p : Shape h) where
+  abbrev m : ℕ
+  m = h .regs .blocks
+
+  pub entry-fine : Fine (entry h)
+  entry-fine = let e = ready-entry h (p .ready) in record { seven = λ z. absurd (omega arith); eight = λ z. absurd (omega arith) }
+
+  holder-seven : (b : ℕ) → holderRefusal h b ≢ 7
+  unfolding holderRefusal
+  holder-seven b = not-seven 5 (omega arith) (standingOf h b)
+
+  target-seven : (t : ℕ) → targetRefusal h t ≢ 7
+  unfolding targetRefusal
+  target-seven t = if-ind (λ (x : ℕ). x ≢ 7) (eqb t 0) (λ e z. absurd (omega arith)) (λ e. not-seven 6 (omega arith) (standingOf h t))
+
+  pub holder-fine : (b : ℕ) → Block m b → Fine (holderRefusal h b)
+  holder-fine b l = record { seven = holder-seven b; eight = holder-sound h p b l }
+
+  pub target-fine : (t : ℕ) → (t ≢ 0 → Block m t) → Fine (targetRefusal h t)
+  target-fine t l = record { seven = target-seven t; eight = target-sound h p t l }
+
+  pub read-fine : (b w : ℕ) → Fine (readRefusal b w h)
+  unfolding readRefusal
+  read-fine b w = fine-then _ _ entry-fine (λ e. fine-then _ _ (word-fine m b w) (λ z. holder-fine b (word-zero m b w z .0)))
+
+  pub store-fine : (b w t : ℕ) → Fine (storeRefusal b w t h)
+  unfolding storeRefusal
+  store-fine b w t =
+      fine-then _ _ entry-fine (λ e. fine-then _ _ (word-fine m b w) (λ z. fine-then _ _ (goal-fine m t) (λ q.
+      fine-then _ _ (holder-fine b (word-zero m b w z .0)) (λ o. target-fine t (none-or-block m t (target-zero m t q))))))
+
+  pub root-fine : (t : ℕ) → Fine (rootRefusal t h)
+  unfolding rootRefusal
+  root-fine t = fine-then _ _ entry-fine (λ e. fine-then _ _ (goal-fine m t) (λ q. target-fine t (none-or-block m t (target-zero m t q))))
+
+  pub take-wants : (b : ℕ) → takeRefusal b h ≡ 7 → h .regs .count ≡ 0
+  unfolding takeRefusal _▷_
+  take-wants b e = by-eq (h .regs .count) 0 (λ z. z) (λ n. absurd (not-wanting n e))
+    where
+      not-wanting : h .regs .count ≢ 0 → takeRefusal b h ≢ 7
+      not-wanting n =
+          if-ind (λ (x : ℕ). x ≢ 7) (eqb (if eqb b 0 then 0 else holderRefusal h b) 0)
+          (λ t z. let q = list-first h p n in absurd (omega arith))
+          (λ t. if-ind (λ (x : ℕ). x ≢ 7) (eqb b 0) (λ s z. absurd (omega arith)) (λ s. holder-seven b))

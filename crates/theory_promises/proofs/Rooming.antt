@@ -1,0 +1,218 @@
+-- Room is never wanting: the rest of demand 3.
+--     cycles-enough            N cycles' worth of allocations pay for a cycle: 2M + 2 ≤ U · N
+--     due-pace                 the units due for a block are a pace at least
+--     call-event               a call is an event of the abstract collector: its units, and then acts that they have paid for
+--     call-keeps               a call that makes nothing anew keeps M and the pace
+--     room-for, margin-for     the promises where no call asks for more than B blocks
+--     each-one                 a call of document 01 asks for one block at most
+--     room-enough, margin      the promises, with B = 1
+-- Assumes nothing.
+use Prim.Native.Nat.{ℕ, _+_, _-_, _*_, _/_, _≤_}
+use mathlib.Core.Path.{_≡_, refl, sym, _∙_, ap, subst}
+use mathlib.Core.Logic.{_≢_}
+use mathlib.Core.List.{List, [], _∷_, _++_, map}
+use native.Mathlib.Nat.{div-add-mod, mod-lt, mul-le-mul-right}
+use native.Mathlib.Omega.{arith}
+use lib.ListN.{replicate}
+use borrow.Author.Tests.{ne-eqb}
+use Rattle.machine.specs.declared.Regs.{Regs}
+use Rattle.machine.specs.Heap.{Heap}
+use Rattle.machine.specs.Allocate.{unitsDue}
+use Rattle.machine.specs.WellFormed.{WellFormed}
+use Rattle.machine.specs.Format.{formatted}
+use Rattle.machine.specs.Session.{Call, does, session}
+use Rattle.machine.specs.Session.Call.{Format, Read, Look, StoreNumber, StoreReference, SetRoot, Allocate, Work, Audit}
+use Rattle.machine.proofs.Tests.{by-eq}
+use Rattle.theory_moves.specs.Heaps.{Sound}
+use Rattle.theory_moves.specs.Runs.{units}
+use Rattle.theory_moves.specs.Bounds.{unused}
+use Rattle.theory_moves.specs.Taking as taking
+use Rattle.theory_moves.specs.Room.{Event, Session, over, next, Settled, fresh-settled, enough-room, room-margin}
+use Rattle.theory_promises.specs.View.{view}
+use Rattle.theory_promises.specs.Deeds.{Act, Deed, aUnit, anAct, deed, after}
+use Rattle.theory_promises.specs.Plans.{plan, deeds, worked, Resets, asks}
+use Rattle.theory_promises.specs.Sessions.{NoReset, Proper, unitsIn}
+use Rattle.theory_promises.specs.Demand3.{cycles, Few, Good, Premises, Asking, RoomFor, MarginFor, RoomEnough, Margin}
+use Rattle.theory_promises.proofs.Viewing.{wf-shape}
+use Rattle.theory_promises.proofs.Reaching.{view-reachable}
+use Rattle.theory_promises.proofs.Counts.{free-count}
+use Rattle.theory_promises.proofs.RunMoves.{units-worked}
+use Rattle.theory_promises.proofs.FreshHeap.{fresh-tint, fresh-view, fresh-formed}
+use Rattle.theory_promises.proofs.Planning.{after-append}
+use Rattle.theory_promises.proofs.Calls.{known, calls-are-deeds, deeds-allowed}
+use Rattle.theory_promises.proofs.Courses.{deeds-run, call-formed}
+
+-- a quotient rounded up, times the divisor
+round-up : (x u : ℕ) → 1 ≤ u → x ≤ u * ((x + (u - 1)) / u)
+round-up x u l = omega (arith, div-add-mod (x + (u - 1)) u, mod-lt (x + (u - 1)) {m = u} l)
+
+pub cycles-enough : (m u : ℕ) → 1 ≤ u → 2 * m + 2 ≤ u * cycles m u
+unfolding cycles
+cycles-enough m u l = round-up (2 * m + 2) u l
+
+-- a pace of units is due for a block
+due-pace : (r : Regs) → r .pace ≤ unitsDue r
+unfolding unitsDue
+due-pace r = by-eq (r .pace) 0 (λ z. omega arith) (λ z. simp (ne-eqb (r .pace) 0 z) (omega arith))
+
+paid-pace : (r : Regs) (n x : ℕ) → unitsDue r * n ≤ x → r .pace * n ≤ x
+paid-pace r n x l = omega (arith, mul-le-mul-right n (due-pace r))
+
+-- acts are no units
+acts-free : (ys : List Act) → unitsIn (map anAct ys) ≡ 0
+acts-free [] = refl
+acts-free (a ∷ ys) = omega (arith, acts-free ys)
+
+proper-right : (ds es : List Deed) (h : Heap) → Proper (ds ++ es) h → Proper es (after ds h)
+unfolding after
+proper-right [] es h p = p
+proper-right (d ∷ ds) es h p = proper-right ds es (deed d h) (p .1)
+
+few-view : (k : ℕ) (h : Heap) → Few k h → taking.Few k (view h)
+few-view k h f = record { list = f .list; short = f .short; has = λ x r. f .has x (view-reachable r) }
+
+pub call-event : (m u n : ℕ) (c : Call) (h : Heap) → h .regs .blocks ≡ m → h .regs .pace ≡ u → WellFormed h → (Resets c h → ⊥)
+    → asks c h ≤ n → Proper (deeds c h) h → Event m u n (view h) (view (does c h .heap))
+call-event m u n c h e q f r b p =
+    let a = plan c h in
+    let k = known c h f in
+    let units = replicate (a .units) aUnit in
+    let w = units-worked m (a .units) h e f in
+    let v = deeds-run m (map anAct (a .acts)) (worked c h) (w .blocks) (w .formed) (k .allowed) in
+    subst (λ (j : Heap). Event m u n (view h) (view j)) (sym (k .whole r ∙ after-append units (map anAct (a .acts)) h))
+    (record {
+      between = view (worked c h);
+      work = w .run;
+      only = w .only;
+      acts = v .run;
+      still = v .units ∙ acts-free (a .acts);
+      proper = v .proper (proper-right units (map anAct (a .acts)) h p);
+      most = omega (arith, v .taken, k .few, b);
+      pace = rw (v .taken, w .long, ← q) (paid-pace (h .regs) _ (a .units) (k .paid));
+    })
+
+pub call-keeps : (h : Heap) → WellFormed h → (c : Call) → (Resets c h → ⊥) → (does c h .heap .regs .blocks ≡ h .regs .blocks) × (does c h .heap .regs .pace ≡ h .regs .pace)
+call-keeps h f c n =
+    let e = calls-are-deeds h f c n in
+    let q = deeds-run (h .regs .blocks) (deeds c h) h refl f (deeds-allowed h f c) in
+    (ap (λ (k : Heap). k .regs .blocks) e ∙ q .blocks, ap (λ (k : Heap). k .regs .pace) e ∙ q .pace)
+
+record Held (m u k n : ℕ) (h j : Heap) : Type 0 where
+  events : Session m u n k (view h) (view j)
+  blocks : j .regs .blocks ≡ m
+  pace : j .regs .pace ≡ u
+  formed : WellFormed j
+
+session-held : (m u k n : ℕ) (cs : List Call) (h : Heap) → h .regs .blocks ≡ m → h .regs .pace ≡ u → WellFormed h
+    → NoReset cs h → Asking n cs h → Good k cs h → Held m u k n h (session cs h)
+unfolding session
+session-held m u k n [] h e q f r a g = record { events = over; blocks = e; pace = q; formed = f }
+session-held m u k n (c ∷ cs) h e q f r a g =
+    let s = call-keeps h f c (r .0) in
+    let t = session-held m u k n cs (does c h .heap) (s .0 ∙ e) (s .1 ∙ q) (call-formed h f c) (r .1) (a .1) (g .1) in
+    record {
+      events = next (call-event m u n c h e q f (r .0) (a .0) (g .0 .0)) (few-view k (does c h .heap) (g .0 .1)) (t .events);
+      blocks = t .blocks;
+      pace = t .pace;
+      formed = t .formed;
+    }
+
+module _ (m u k n : ℕ) (cs : List Call) (q : Premises m u k cs) (a : Asking n cs (formatted m u)) where
+  abbrev j : Heap
+  j = session cs (formatted m u)
+
+  held : Held m u k n (formatted m u) j
+  unfolding formatted
+  held = session-held m u k n cs (formatted m u) refl refl (fresh-formed m u (q .some) (q .most) (q .pace)) (q .formats) a (q .good)
+
+  settled : Settled m k (view (formatted m u))
+  unfolding formatted
+  settled = fresh-settled m k (view (formatted m u)) refl (fresh-tint m u (q .some) (q .most) (q .pace))
+
+  sound : Sound m (view (formatted m u))
+  unfolding formatted
+  sound = fresh-view m u (q .some) (q .most) (q .pace)
+
+  -- the free count, in the view
+  counted : (h : Heap) → h .regs .blocks ≡ m → WellFormed h → unused m (view h) ≡ h .regs .count
+  counted h e f = subst (λ (x : ℕ). unused x (view h) ≡ h .regs .count) e (free-count h (wf-shape h f))
+
+  no-want : k + 2 * cycles m u + n ≤ m + 1 → (c : Call) → asks c j ≤ n → does c j .answer .refusal ≢ 7
+  no-want l c b z =
+      let y = known c j (held .formed) .wanting z in
+      let w = units-worked m (plan c j .units) j (held .blocks) (held .formed) in
+      let paid : u * asks c j ≤ units (w .run) = rw (w .long) (subst (λ (x : ℕ). x * asks c j ≤ plan c j .units) (held .pace) (paid-pace (j .regs) (asks c j) (plan c j .units) (y .0))) in
+      let s = enough-room m u n k (cycles m u) (cycles-enough m u (q .paced)) (view (worked c j)) sound settled (held .events) (w .run) (w .only) (asks c j) b paid l in
+      let t = counted (worked c j) (w .blocks) (w .formed) in
+      let x = y .1 in
+      absurd (omega arith)
+
+  left-over : m + 1 ≤ j .regs .count + k + 2 * cycles m u + n
+  left-over =
+      let s = room-margin m u n k (cycles m u) (cycles-enough m u (q .paced)) (view j) sound settled (held .events) in
+      let t = counted j (held .blocks) (held .formed) in
+      omega arith
+
+-- the first calls of a session
+resets-left : (cs ds : List Call) (h : Heap) → NoReset (cs ++ ds) h → NoReset cs h
+resets-left [] ds h n = tt
+resets-left (c ∷ cs) ds h n = (n .0, resets-left cs ds (does c h .heap) (n .1))
+
+good-left : (k : ℕ) (cs ds : List Call) (h : Heap) → Good k (cs ++ ds) h → Good k cs h
+good-left k [] ds h g = tt
+good-left k (c ∷ cs) ds h g = (g .0, good-left k cs ds (does c h .heap) (g .1))
+
+asking-left : (n : ℕ) (cs ds : List Call) (h : Heap) → Asking n (cs ++ ds) h → Asking n cs h
+asking-left n [] ds h a = tt
+asking-left n (c ∷ cs) ds h a = (a .0, asking-left n cs ds (does c h .heap) (a .1))
+
+-- and the next
+asking-next : (n : ℕ) (cs : List Call) (c : Call) (ds : List Call) (h : Heap) → Asking n (cs ++ (c ∷ ds)) h → asks c (session cs h) ≤ n
+unfolding session
+asking-next n [] c ds h a = a .0
+asking-next n (b ∷ cs) c ds h a = asking-next n cs c ds (does b h .heap) (a .1)
+
+premises-left : (m u k : ℕ) (cs ds : List Call) → Premises m u k (cs ++ ds) → Premises m u k cs
+premises-left m u k cs ds q =
+    record {
+      some = q .some;
+      most = q .most;
+      paced = q .paced;
+      pace = q .pace;
+      formats = resets-left cs ds (formatted m u) (q .formats);
+      good = good-left k cs ds (formatted m u) (q .good);
+    }
+
+pub room-for : RoomFor
+room-for =
+    record {
+      within = λ m u k n cs c ds q a l.
+          no-want m u k n cs (premises-left m u k cs (c ∷ ds) q) (asking-left n cs (c ∷ ds) (formatted m u) a) l c (asking-next n cs c ds (formatted m u) a);
+      further = λ m u k n cs q a l c b. no-want m u k n cs q a l c b;
+    }
+
+pub margin-for : MarginFor
+margin-for m u k n cs q a = left-over m u k n cs q a
+
+-- a call that asked for more would end this, and with it the two promises below: `room-for` and `margin-for` would stand in their place
+pub each-one : (c : Call) (h : Heap) → asks c h ≤ 1
+unfolding plan
+each-one (Format m u) h = omega arith
+each-one (Read b w) h = omega arith
+each-one (Look b) h = omega arith
+each-one (StoreNumber b w v) h = omega arith
+each-one (StoreReference b w t) h = omega arith
+each-one (SetRoot t) h = omega arith
+each-one (Allocate b w) h = omega arith
+each-one (Work n) h = omega arith
+each-one Audit h = omega arith
+
+asking-one : (cs : List Call) (h : Heap) → Asking 1 cs h
+asking-one [] h = tt
+asking-one (c ∷ cs) h = (each-one c h, asking-one cs (does c h .heap))
+
+pub room-enough : RoomEnough
+room-enough m u k cs q l b w = room-for .further m u k 1 cs q (asking-one cs (formatted m u)) (omega arith) (Allocate b w) (each-one (Allocate b w) (session cs (formatted m u)))
+
+pub margin : Margin
+margin m u k cs q = let s = margin-for m u k 1 cs q (asking-one cs (formatted m u)) in omega arith

@@ -1,0 +1,91 @@
+-- Demand 3, as statements about document 01's calls.
+--     allocatedBlocks h    how many blocks are allocated
+--     CycleShort           "a cycle that starts with A allocated blocks takes at most A + M + 2 units", and exactly 2 + marked + M
+--     cycles m u           N: "(2M + 2)/U rounded up"
+--     Few k h              at most k blocks are reachable: a list of at most k numbers in which each of them occurs
+--     Good k cs h          after each call at most k are reachable, and each target named was 0 or reachable at that moment
+--     Asking n cs h        no call of the session asks for more than n blocks
+--     RoomFor, MarginFor   no call is refused for want of room, and the margin, where calls ask for at most B blocks: K + 2N + B - 1 ≤ M
+--     RoomEnough           "no allocation is refused for want of room"
+--     Margin               the free count after every call is at least M - K - 2N
+-- A fresh heap is `formatted m u`. Sessions are any calls with any arguments, refused ones among them, without a further Format that
+-- answers 0. The calls of document 01 ask for one block at most, so that RoomEnough and Margin are the case B = 1.
+-- Assumes nothing.
+use Prim.Native.Nat.{ℕ, _+_, _-_, _*_, _/_, _≤_}
+use mathlib.Core.Path.{_≡_}
+use mathlib.Core.Logic.{_≢_}
+use mathlib.Core.List.{List, [], _∷_, _++_, List·Memᴰ}
+use lib.ListN.{length}
+use Rattle.machine.specs.Registers.{idle}
+use Rattle.machine.specs.Colouring.{isAllocated}
+use Rattle.machine.specs.Heap.{Heap}
+use Rattle.machine.specs.Audit.{countFrom}
+use Rattle.machine.specs.WellFormed.{WellFormed}
+use Rattle.machine.specs.Format.{formatted}
+use Rattle.machine.specs.Session.{Call, does, session}
+use Rattle.machine.specs.Session.Call.{Allocate}
+use Rattle.theory_promises.specs.Reachable.{Reachable}
+use Rattle.theory_promises.specs.Deeds.{Deed, aUnit, deed, after}
+use Rattle.theory_promises.specs.Plans.{deeds, asks}
+use Rattle.theory_promises.specs.Sessions.{NoReset, sessionDeeds, Proper, NoBegin, unitsIn, marksIn}
+
+abbrev pub allocatedBlocks : Heap → ℕ
+allocatedBlocks h = countFrom (isAllocated (h .regs .blocks) (h .colours)) (h .regs .blocks) 2
+
+-- the deeds ys follow the unit that starts a cycle, after the deeds xs, and start none themselves: the cycle still runs, or has just
+-- ended; its units are counted over all the calls that do them
+pub record CycleShort : Type 0 where
+  -- "The count of allocated blocks is M less the free count"
+  pub counted : (h : Heap) → WellFormed h → allocatedBlocks h + h .regs .count ≡ h .regs .blocks
+  pub short : (h : Heap) → WellFormed h → (cs : List Call) → NoReset cs h → (xs ys zs : List Deed) → sessionDeeds cs h ≡ xs ++ (aUnit ∷ (ys ++ zs))
+      → after xs h .regs .phase ≡ idle → NoBegin ys (deed aUnit (after xs h))
+      → unitsIn (aUnit ∷ ys) ≤ allocatedBlocks (after xs h) + h .regs .blocks + 2
+  pub exact : (h : Heap) → WellFormed h → (cs : List Call) → NoReset cs h → (xs ys zs : List Deed) → sessionDeeds cs h ≡ xs ++ (aUnit ∷ (ys ++ zs))
+      → after xs h .regs .phase ≡ idle → NoBegin ys (deed aUnit (after xs h)) → after ys (deed aUnit (after xs h)) .regs .phase ≡ idle
+      → unitsIn (aUnit ∷ ys) ≡ 2 + marksIn ys (deed aUnit (after xs h)) + h .regs .blocks
+
+unfoldable pub cycles : ℕ → ℕ → ℕ
+cycles m u = (2 * m + 2 + (u - 1)) / u
+
+pub record Few (k : ℕ) (h : Heap) : Type 0 where
+  pub list : List ℕ
+  pub short : length list ≤ k
+  pub has : (b : ℕ) → Reachable h b → List·Memᴰ b list
+
+abbrev pub Good : ℕ → List Call → Heap → Type 0
+Good k [] h = Unit {0}
+Good k (c ∷ cs) h = (Proper (deeds c h) h × Few k (does c h .heap)) × Good k cs (does c h .heap)
+
+pub record Premises (m u k : ℕ) (cs : List Call) : Type 0 where
+  pub some : 1 ≤ m
+  pub most : m ≤ 16384
+  pub paced : 1 ≤ u
+  pub pace : u ≤ 65535
+  pub formats : NoReset cs (formatted m u)
+  pub good : Good k cs (formatted m u)
+
+abbrev pub Asking : ℕ → List Call → Heap → Type 0
+Asking n [] h = Unit {0}
+Asking n (c ∷ cs) h = (asks c h ≤ n) × Asking n cs (does c h .heap)
+
+-- with B for n: no call of the session answers 7, nor would any further call that asks for at most B blocks
+pub record RoomFor : Type 0 where
+  pub within :
+      (m u k n : ℕ) (cs : List Call) (c : Call) (ds : List Call) → Premises m u k (cs ++ (c ∷ ds)) → Asking n (cs ++ (c ∷ ds)) (formatted m u)
+      → k + 2 * cycles m u + n ≤ m + 1 → does c (session cs (formatted m u)) .answer .refusal ≢ 7
+  pub further :
+      (m u k n : ℕ) (cs : List Call) → Premises m u k cs → Asking n cs (formatted m u) → k + 2 * cycles m u + n ≤ m + 1
+      → (c : Call) → asks c (session cs (formatted m u)) ≤ n → does c (session cs (formatted m u)) .answer .refusal ≢ 7
+
+abbrev pub MarginFor : Type 0
+MarginFor =
+    (m u k n : ℕ) (cs : List Call) → Premises m u k cs → Asking n cs (formatted m u)
+    → m + 1 ≤ session cs (formatted m u) .regs .count + k + 2 * cycles m u + n
+
+abbrev pub RoomEnough : Type 0
+RoomEnough =
+    (m u k : ℕ) (cs : List Call) → Premises m u k cs → k + 2 * cycles m u ≤ m
+    → (b w : ℕ) → does (Allocate b w) (session cs (formatted m u)) .answer .refusal ≢ 7
+
+abbrev pub Margin : Type 0
+Margin = (m u k : ℕ) (cs : List Call) → Premises m u k cs → m ≤ session cs (formatted m u) .regs .count + k + 2 * cycles m u
