@@ -28,9 +28,10 @@ use Rattle.machine.proofs.Bytes.{below-eight}
 use Rattle.machine.proofs.Colours.{is-free}
 use Rattle.machine.proofs.Kept.{head-one}
 use Rattle.machine.proofs.Steps.{never}
+use Rattle.theory_moves.specs.Heaps.{Sound}
+use Rattle.theory_moves.proofs.Heaps.{fresh-sound}
 use Rattle.theory_reach.specs.Sums as sums
 use Rattle.theory_moves.specs.Tints as tints
-use Rattle.theory_moves.specs.Heaps.{Sound, fresh-sound}
 use Rattle.theory_promises.specs.View.{tintOf, view, Shape}
 use Rattle.theory_promises.proofs.Viewing.{here, shape-wf}
 

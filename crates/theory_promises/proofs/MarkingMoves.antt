@@ -24,9 +24,10 @@ use Rattle.machine.proofs.Colours.{not-a-block, was-white, head-block}
 use Rattle.machine.proofs.Steps.{never}
 use Rattle.machine.proofs.Kept.{Kept, head-one, head-elsewhere, next-legal, begun-kept, marked-kept, turned-kept}
 use Rattle.theory_audit.proofs.Words.{names-member, member-names}
-use Rattle.theory_moves.specs.Tints.{Turned, stays-free, was-free, stays-black}
-use Rattle.theory_moves.specs.Tints as tints
+use Rattle.theory_moves.specs.Tints.{Turned}
 use Rattle.theory_moves.specs.Moves.{Begin, Mark, Turn}
+use Rattle.theory_moves.proofs.Tints.{stays-free, was-free, stays-black}
+use Rattle.theory_moves.specs.Tints as tints
 use Rattle.theory_promises.specs.View.{tintOf, view, Shape}
 use Rattle.theory_promises.proofs.Viewing.{here, there, names-ref, ref-names, tinted}
 use Rattle.theory_promises.proofs.Greys.{TintIn, Greying, turned-as, greying-white, greying-all, black-here, black-there, black-list}

@@ -33,9 +33,9 @@ use Rattle.machine.proofs.Bytes.{below-eight}
 use Rattle.machine.proofs.Colours.{is-white, is-free}
 use Rattle.machine.proofs.Steps.{never}
 use Rattle.machine.proofs.Kept.{advance-kept, reclaimed-kept, whitened-kept}
-use Rattle.theory_moves.specs.Tints as tints
 use Rattle.theory_moves.specs.Heaps.{span, final}
 use Rattle.theory_moves.specs.Moves.{SameCells, freeing, whitening, passing, Onward, going, ending, Sweep}
+use Rattle.theory_moves.specs.Tints as tints
 use Rattle.theory_promises.specs.View.{tintOf, view, Shape}
 use Rattle.theory_promises.proofs.Viewing.{here, there}
 use Rattle.theory_promises.proofs.Chains.{chain-same, same-blocks, chain-push, push-length}

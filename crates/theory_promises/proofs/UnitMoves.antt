@@ -22,13 +22,13 @@ use Rattle.machine.proofs.Tests.{both, by-eq, if-true, if-false}
 use Rattle.machine.proofs.Blocks.{below-isBlock, block-isBlock}
 use Rattle.machine.proofs.Steps.{never, begins, turns, marking-as, sweeping-as}
 use Rattle.theory_audit.proofs.Words.{member-names}
-use Rattle.theory_moves.specs.Tints as tints
 use Rattle.theory_moves.specs.Heaps.{Sound}
-use Rattle.theory_moves.specs.Heaps as heaps
 use Rattle.theory_moves.specs.Moves.{Move}
+use Rattle.theory_moves.specs.Kinds.{cost}
+use Rattle.theory_moves.specs.Tints as tints
+use Rattle.theory_moves.specs.Heaps as heaps
 use Rattle.theory_moves.specs.Moves as moves
 use Rattle.theory_moves.specs.Moves.Move.{begin, mark, turn, sweep}
-use Rattle.theory_moves.specs.Kinds.{cost}
 use Rattle.theory_moves.specs.Kinds as moves-kinds
 use Rattle.theory_promises.specs.Deeds.{aUnit}
 use Rattle.theory_promises.specs.Sessions.{marking?}
