@@ -24,7 +24,8 @@ use Rattle.theory_reach.proofs.Splits.{never}
 use Rattle.theory_reach.proofs.Sums.{total-le, total-same, total-down, total-plus, total-ones}
 use Rattle.theory_moves.specs.Tints.{Tint, White, Grey, Black, Free, Turned, turned, stayed}
 use Rattle.theory_moves.specs.Heaps.{Abs, idle, marking, sweeping, Sound, span, final}
-use Rattle.theory_moves.specs.Moves.{Begin, Mark, Onward, going, ending, Sweep, Fresh, newMarking, newAhead, newBehind, newIdle, Move, begin, mark, turn, sweep, writeNumber, writeRef, setRoot, takeHeld, takeRoot}
+use Rattle.theory_moves.specs.Moves.{Begin, Mark, Onward, going, ending, Sweep, Fresh, newMarking, newAhead, newBehind, newIdle}
+use Rattle.theory_moves.specs.Moves.{Move, begin, mark, turn, sweep, writeNumber, writeRef, setRoot, takeHeld, takeRoot}
 use Rattle.theory_moves.specs.Kinds.{cost, marked, begun}
 use Rattle.theory_moves.specs.Runs.{Run, rest, step, units, marks, begins}
 use Rattle.theory_moves.specs.Demand3.{stands, lies, allocated, unused, CycleShort}

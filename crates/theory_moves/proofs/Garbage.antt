@@ -22,7 +22,8 @@ use Rattle.theory_reach.proofs.Splits.{never, by-eq}
 use Rattle.theory_reach.proofs.Reaching.{reach-closed}
 use Rattle.theory_moves.specs.Tints.{White, Free, Turned, turned, stayed}
 use Rattle.theory_moves.specs.Heaps.{Abs, idle, marking, named, ref, Reached, Doomed, Live, Sound, final}
-use Rattle.theory_moves.specs.Moves.{Begin, Names, Mark, Turn, Swept, freeing, whitening, passing, Onward, going, ending, Sweep, Move, begin, mark, turn, sweep, writeNumber, writeRef, setRoot, takeHeld, takeRoot}
+use Rattle.theory_moves.specs.Moves.{Begin, Names, Mark, Turn, Swept, freeing, whitening, passing, Onward, going, ending, Sweep}
+use Rattle.theory_moves.specs.Moves.{Move, begin, mark, turn, sweep, writeNumber, writeRef, setRoot, takeHeld, takeRoot}
 use Rattle.theory_moves.specs.Kinds.{begun}
 use Rattle.theory_moves.specs.Runs.{Run, rest, step, begins, Proper, ProperRun, FreedIn, freed-later}
 use Rattle.theory_moves.specs.Demand2.{GarbageGoes}

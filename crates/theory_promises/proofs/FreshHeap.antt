@@ -24,7 +24,7 @@ use Rattle.machine.specs.Format.{freeList, formatted}
 use Rattle.machine.specs.WellFormed.{Block, Listed, ends, goes, WellFormed}
 use Rattle.machine.specs.Ready.{Ready}
 use Rattle.machine.proofs.Tests.{by-eq, by-test}
-use Rattle.machine.proofs.Bytes.{below-eight}
+use Rattle.machine.proofs.Bytes.{free-rest}
 use Rattle.machine.proofs.Colours.{is-free}
 use Rattle.machine.proofs.Kept.{head-one}
 use Rattle.machine.proofs.Steps.{never}
@@ -157,7 +157,7 @@ module _ (m u : ℕ) (some : 1 ≤ m) (most : m ≤ 16384) (pace : u ≤ 65535) 
         };
         laid = λ b f. record {
           byte = byte-none b (f .block);
-          words = λ w o q. word-at b w (f .block) q ∙ below-eight (λ v. 1 ≤ v → getD (freeWords (from (m + 1 - b) (b + 1))) v 0 ≡ 0) (λ i. absurd (omega arith)) (λ i. refl) (λ i. refl) (λ i. refl) (λ i. refl) (λ i. refl) (λ i. refl) (λ i. refl) w (omega arith) o;
+          words = λ w o q. word-at b w (f .block) q ∙ free-rest (from (m + 1 - b) (b + 1)) w o q;
         };
         counted = upTo-length m 2;
       }

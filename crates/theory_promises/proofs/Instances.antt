@@ -36,7 +36,8 @@ use Rattle.theory_promises.specs.Deeds.{Act, acted, Deed, aUnit, anAct, 
 use Rattle.theory_promises.specs.Plans.{plan, deeds, asks}
 use Rattle.theory_promises.specs.Sessions.{NoReset, sessionDeeds, Proper, NoBegin, FreedBy, now, later}
 use Rattle.theory_promises.specs.Demand3.{cycles, Good, Premises, Asking}
-use Rattle.theory_promises.specs.Instances.{fresh, leaving, before, left, plain, Freed, Survives, HandArithmetic, within, allWithin, namesWithin, closes, pair, goesOn, works, churn, byTurns, rooted, long, Roomy}
+use Rattle.theory_promises.specs.Instances.{fresh, leaving, before, left, plain, Freed, Survives, HandArithmetic, within, allWithin}
+use Rattle.theory_promises.specs.Instances.{namesWithin, closes, pair, goesOn, works, churn, byTurns, rooted, long, Roomy}
 use Rattle.theory_promises.proofs.FreshHeap.{fresh-formed}
 use Rattle.theory_promises.proofs.Collecting.{garbage-goes}
 use Rattle.theory_promises.proofs.Rooming.{room-for, margin-for}
