@@ -40,6 +40,10 @@ no-second-outcome =
       ofStoreReference = λ b w t h. only _;
       ofSetRoot = λ t h. only _;
       ofAllocate = λ b w h. only _;
+      ofAllocateChain = λ b w n h. only _;
+      ofReadField = λ b k h. only-read _;
+      ofStoreFieldNumber = λ b k v h. only _;
+      ofStoreFieldReference = λ b k t h. only _;
       ofWork = λ n h. only _;
       ofAudit = λ h. only-audit _;
     }

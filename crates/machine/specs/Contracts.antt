@@ -17,6 +17,8 @@ use Rattle.machine.specs.Format.{format}
 use Rattle.machine.specs.Read.{read, look, lookAt, moved}
 use Rattle.machine.specs.Store.{storeNumber, storeReference, setRoot}
 use Rattle.machine.specs.Allocate.{allocate}
+use Rattle.machine.specs.Chain.{allocateChain}
+use Rattle.machine.specs.Field.{readField, storeFieldNumber, storeFieldReference}
 use Rattle.machine.specs.Work.{work}
 use Rattle.machine.specs.Audit.{audit}
 
@@ -50,5 +52,9 @@ pub record NoSecondOutcome : Type 0 where
   pub ofStoreReference : (b w t : ℕ) (h : Heap) → Only (storeReference b w t h)
   pub ofSetRoot : (t : ℕ) (h : Heap) → Only (setRoot t h)
   pub ofAllocate : (b w : ℕ) (h : Heap) → Only (allocate b w h)
+  pub ofAllocateChain : (b w n : ℕ) (h : Heap) → Only (allocateChain b w n h)
+  pub ofReadField : (b k : ℕ) (h : Heap) → OnlyRead (readField b k h)
+  pub ofStoreFieldNumber : (b k v : ℕ) (h : Heap) → Only (storeFieldNumber b k v h)
+  pub ofStoreFieldReference : (b k t : ℕ) (h : Heap) → Only (storeFieldReference b k t h)
   pub ofWork : (n : ℕ) (h : Heap) → Only (work n h)
   pub ofAudit : (h : Heap) → OnlyAudit (audit h)

@@ -14,6 +14,9 @@ pub mod Format
 pub mod Read
 pub mod Store
 pub mod Allocate
+pub mod Several
+pub mod Chain
+pub mod Field
 pub mod Work
 pub mod WellFormed
 pub mod Audit

@@ -14,6 +14,8 @@ use Rattle.machine.specs.Format.{format}
 use Rattle.machine.specs.Read.{read, look}
 use Rattle.machine.specs.Store.{storeNumber, storeReference, setRoot}
 use Rattle.machine.specs.Allocate.{allocate}
+use Rattle.machine.specs.Chain.{allocateChain}
+use Rattle.machine.specs.Field.{readField, storeFieldNumber, storeFieldReference}
 use Rattle.machine.specs.Work.{work}
 use Rattle.machine.specs.Audit.{audit}
 
@@ -25,6 +27,10 @@ pub data Call : Type 0 where
   StoreReference : ℕ → ℕ → ℕ → Call
   SetRoot : ℕ → Call
   Allocate : ℕ → ℕ → Call
+  AllocateChain : ℕ → ℕ → ℕ → Call
+  ReadField : ℕ → ℕ → Call
+  StoreFieldNumber : ℕ → ℕ → ℕ → Call
+  StoreFieldReference : ℕ → ℕ → ℕ → Call
   Work : ℕ → Call
   Audit : Call
 
@@ -39,6 +45,10 @@ does (StoreNumber b w v) h = storeNumber b w v h
 does (StoreReference b w t) h = storeReference b w t h
 does (SetRoot t) h = setRoot t h
 does (Allocate b w) h = allocate b w h
+does (AllocateChain b w n) h = allocateChain b w n h
+does (ReadField b k) h = plainly (readField b k h)
+does (StoreFieldNumber b k v) h = storeFieldNumber b k v h
+does (StoreFieldReference b k t) h = storeFieldReference b k t h
 does (Work n) h = work n h
 does Audit h = audit h
 
