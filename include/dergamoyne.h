@@ -62,8 +62,9 @@
 
    POINTERS AND LENGTHS
 
-   A length counts elements, not bytes. Every call tests the three lengths against M and refuses by 1 if one of them doesn't fit.
-   A buffer of length 0 never fits, since M is at least 1. It is refused, and nothing is read or written through its pointer.
+   A length counts elements, not bytes. Every call tests the three lengths against M and refuses by 1 if one of them doesn't fit
+   (Audit, which never refuses, has the value 0). A buffer of length 0 never fits, since M is at least 1, and nothing is read or
+   written through its pointer.
 
    A call can't test the following, so you have to ensure it: no pointer is null (not even with length 0), each is aligned for
    its type, the memory behind it is as long as you say, and no two of the record, the three buffers and Export's buffer overlap.
