@@ -29,7 +29,7 @@ fn zeroes(part: &[u32]) -> bool
 fn may_be_black(r: Regs, b: u32) -> bool
     ensures { λ t. ⌜ t ≡ mayBeBlack r b ⌝ }
 {
-    r.phase == 1 || (r.phase == 2 && r.position <= b)
+    r.phase == machine::MARKING || (r.phase == machine::SWEEPING && r.position <= b)
 }
 
 // Whether the white block b passes.
@@ -48,7 +48,7 @@ fn grey_passes(r: Regs, colours: &[u32], part: &[u32], byte: u8, b: u32) -> bool
     requires { ⌜ (r .blocks ≤ 16384) × (length (now colours) ≡ r .blocks) × (length (now part) ≡ 8) ⌝ }
     ensures { λ t. ⌜ t ≡ colourPasses r (now (colours .entry)) (now (part .entry)) byte b Grey ⌝ }
 {
-    if r.phase == 1 {
+    if r.phase == machine::MARKING {
         return part_names::may_name_all(r, colours, false, part, byte);
     }
     false
@@ -60,7 +60,7 @@ fn black_passes(r: Regs, colours: &[u32], part: &[u32], byte: u8, b: u32) -> boo
     ensures { λ t. ⌜ t ≡ colourPasses r (now (colours .entry)) (now (part .entry)) byte b Black ⌝ }
 {
     if may_be_black(r, b) {
-        return part_names::may_name_all(r, colours, r.phase == 1, part, byte);
+        return part_names::may_name_all(r, colours, r.phase == machine::MARKING, part, byte);
     }
     false
 }
@@ -108,7 +108,7 @@ fn blocks_pass(r: Regs, words: &[u32], colours: &[u32], bytes: &[u8]) -> bool
     ensures { λ t. ⌜ t ≡ allFrom (blockPasses (heap r (now (words .entry)) (now (colours .entry)) (now (bytes .entry)))) (r .blocks) 2 ⌝ }
 {
     let m = r.blocks;
-    let mut b = 2;
+    let mut b = machine::FIRST;
     while b <= m + 1 {
         if block_passes(r, words, colours, bytes, b) {
             b += 1;
@@ -124,7 +124,7 @@ fn greys(r: Regs, colours: &[u32]) -> bool
     requires { ⌜ (r .blocks ≤ 16384) × (length (now colours) ≡ r .blocks) ⌝ }
     ensures { λ t. ⌜ ((ws bs : List ℕ) → Ready (heap r ws (now (colours .entry)) bs) → allFrom (blockPasses (heap r ws (now (colours .entry)) bs)) (r .blocks) 2 ≡ true → t ≡ layoutPasses (r .blocks) (colouring (heap r ws (now (colours .entry)) bs))) ⌝ }
 {
-    if r.phase != 1 {
+    if r.phase != machine::MARKING {
         return true;
     }
     part_colours::layout::greys_pass(r.blocks, r.grey, colours)
@@ -137,7 +137,7 @@ fn passes(r: Regs, words: &[u32], colours: &[u32], bytes: &[u8]) -> bool
     if part_checks::entry(r, words, colours, bytes) == 0 {
         if blocks_pass(r, words, colours, bytes) {
             if greys(r, colours) {
-                if part_names::may_name(r, colours, r.phase == 1, r.root) {
+                if part_names::may_name(r, colours, r.phase == machine::MARKING, r.root) {
                     return part_free_walk::frees_pass(r, words, colours);
                 }
             }

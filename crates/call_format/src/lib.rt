@@ -14,7 +14,7 @@ fn link_all(words: &mut [u32], m: u32)
     requires { ⌜ (1 ≤ m) × (m ≤ 16384) × (length (now words) ≡ 8 * m) ⌝ }
     ensures { λ _. ⌜ now (words .exit) ≡ freeList m 2 ⌝ }
 {
-    let mut b = 2;
+    let mut b = machine::FIRST;
     let mut left = m;
     while left > 1 {
         left -= 1;
@@ -35,9 +35,9 @@ fn fresh_regs(r: Regs, m: u32, u: u32) -> Regs
     let mut s = r;
     s.blocks = m;
     s.pace = u;
-    s.phase = 0;
-    s.grey = 1;
-    s.free = 2;
+    s.phase = machine::IDLE;
+    s.grey = machine::NO_GREY;
+    s.free = machine::FIRST;
     s.count = m;
     s.position = 0;
     s.root = 0;
@@ -62,5 +62,5 @@ pub fn format(
         part_cells::fresh(bytes);
         return part_checks::done(fresh_regs(r, m, u), 0);
     }
-    part_checks::refused(r, 1)
+    part_checks::refused(r, machine::UNFIT)
 }

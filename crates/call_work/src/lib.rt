@@ -14,8 +14,8 @@ pub fn work(r: Regs, words: &mut [u32], colours: &mut [u32], bytes: &mut [u8], n
     if e != 0 {
         return part_checks::refused(r, e);
     }
-    if 65535 < n {
-        return part_checks::refused(r, 9);
+    if machine::MOST_UNITS < n {
+        return part_checks::refused(r, machine::TOO_MANY_UNITS);
     }
     if n == 0 {
         return part_checks::done(r, 0);

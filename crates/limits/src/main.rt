@@ -2,8 +2,8 @@
 // heap stand in a table, and are done as heaprun does them.
 use machine::Answer;
 use machine::Regs;
-use text_lines::Command;
-use text_streams::Output;
+use text_commands::Command;
+use text_output::Output;
 
 // The registers after a call, and what waits to be written.
 struct Done {
@@ -56,7 +56,7 @@ fn call(
     c: Command,
 ) -> Done {
     let s = text_lines::perform(d.regs, words, colours, bytes, c);
-    let o = text_streams::put_three(out, d.output, s.first, s.second, s.third);
+    let o = text_output::put_three(out, d.output, s.first, s.second, s.third);
     let r = s.regs;
     Done { regs: r, output: o }
 }
@@ -136,31 +136,31 @@ fn refused(m: u32) -> Answer {
 
 // Puts what a call answered.
 fn show(out: &mut [u8; 65536], o: Output, a: Answer) -> Output {
-    text_streams::put_three(out, o, a.refusal, a.value, a.units)
+    text_output::put_three(out, o, a.refusal, a.value, a.units)
 }
 
 // Puts 1 for yes and 0 for no, as a line.
 fn put_yes(out: &mut [u8; 65536], o: Output, yes: bool) -> Output {
     if yes {
-        return text_streams::put(out, o, 1, 10);
+        return text_output::put(out, o, 1, 10);
     }
-    text_streams::put(out, o, 0, 10)
+    text_output::put(out, o, 0, 10)
 }
 
 // Cases 12 and 13.
 fn sizes(out: &mut [u8; 65536], o: Output) -> Output {
-    let p = text_streams::put(out, o, call_size::most_in_a_cycle(1024, 10), 10);
+    let p = text_output::put(out, o, call_size::most_in_a_cycle(1024, 10), 10);
     let q = put_yes(out, p, call_size::has_room(1024, 10, 614));
     let r = put_yes(out, q, call_size::has_room(1024, 10, 615));
-    let s = text_streams::put(out, r, call_size::most_in_a_cycle(3, 8), 10);
+    let s = text_output::put(out, r, call_size::most_in_a_cycle(3, 8), 10);
     put_yes(out, s, call_size::has_room(3, 8, 1))
 }
 
 fn main() {
     let mut out = io::large_buffer();
-    let a = show(&mut out, text_streams::empty(), refused(0));
+    let a = show(&mut out, text_output::empty(), refused(0));
     let b = show(&mut out, a, refused(16385));
     let c = as_many_as_there_may_be(&mut out, b);
     let d = sizes(&mut out, c);
-    text_streams::flush(&out, d);
+    text_output::flush(&out, d);
 }

@@ -3,6 +3,53 @@
 ghost use mathlib.Core.Path.{_≡_};
 ghost use Rattle.machine.specs.Registers.{withGrey};
 
+// The largest heap, pace and count of units that Work takes.
+pub const MOST_BLOCKS: u32 = 16_384;
+
+pub const MOST_PACE: u32 = 65_535;
+
+pub const MOST_UNITS: u32 = 65_535;
+
+// The phases.
+pub const IDLE: u32 = 0;
+
+pub const MARKING: u32 = 1;
+
+pub const SWEEPING: u32 = 2;
+
+// The end of the grey list, and the first block.
+pub const NO_GREY: u32 = 1;
+
+pub const FIRST: u32 = 2;
+
+// The colour words that are no link.
+pub const WHITE: u32 = 0;
+
+pub const BLACK: u32 = 4_294_967_295;
+
+pub const FREE: u32 = 4_294_967_294;
+
+// The refusal numbers, by what they say: M, U or a length doesn't fit; the registers aren't legal; there is no such block or word;
+// the target is neither 0 nor a block; the block is free or doomed; the target is; no block is free; a colour or link met is outside
+// the layout; Work is asked for too many units.
+pub const UNFIT: u32 = 1;
+
+pub const ILLEGAL: u32 = 2;
+
+pub const NO_PLACE: u32 = 3;
+
+pub const NO_TARGET: u32 = 4;
+
+pub const GONE: u32 = 5;
+
+pub const TARGET_GONE: u32 = 6;
+
+pub const NO_ROOM: u32 = 7;
+
+pub const DAMAGE: u32 = 8;
+
+pub const TOO_MANY_UNITS: u32 = 9;
+
 // The register record, in document 01's order.
 #[repr(C)]
 pub struct Regs {

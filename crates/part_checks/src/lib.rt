@@ -25,7 +25,7 @@ ghost use Rattle.machine.specs.Answers.{given, answering, refuse, done};
 pub fn numbers_fit(m: u32, u: u32) -> bool
     ensures { λ r. ⌜ r ≡ numbersFit m u ⌝ }
 {
-    1 <= m && (m <= 16384 && u <= 65535)
+    1 <= m && (m <= machine::MOST_BLOCKS && u <= machine::MOST_PACE)
 }
 
 // Whether the buffers have the lengths that m blocks ask for.
@@ -55,7 +55,7 @@ pub fn is_block_or_none(m: u32, b: u32) -> bool
 fn idle_legal(g: u32, position: u32) -> bool
     ensures { λ x. ⌜ x ≡ (eqb g 1 && eqb position 0) ⌝ }
 {
-    g == 1 && position == 0
+    g == machine::NO_GREY && position == 0
 }
 
 // The same while marking.
@@ -63,7 +63,7 @@ fn marking_legal(m: u32, g: u32, position: u32) -> bool
     requires { ⌜ m ≤ 16384 ⌝ }
     ensures { λ x. ⌜ x ≡ (eqb position 0 && (eqb g 1 || isBlock m g)) ⌝ }
 {
-    position == 0 && (g == 1 || part_colours::is_block(m, g))
+    position == 0 && (g == machine::NO_GREY || part_colours::is_block(m, g))
 }
 
 // The same while sweeping.
@@ -71,7 +71,7 @@ fn sweeping_legal(m: u32, g: u32, position: u32) -> bool
     requires { ⌜ m ≤ 16384 ⌝ }
     ensures { λ x. ⌜ x ≡ (eqb g 1 && isBlock m position) ⌝ }
 {
-    g == 1 && part_colours::is_block(m, position)
+    g == machine::NO_GREY && part_colours::is_block(m, position)
 }
 
 // Whether the phase is legal, and the grey head and the position in it.
@@ -81,9 +81,9 @@ pub fn phase_legal(r: Regs) -> bool
 {
     let phase = r.phase;
     match phase {
-        0 => idle_legal(r.grey, r.position),
-        1 => marking_legal(r.blocks, r.grey, r.position),
-        2 => sweeping_legal(r.blocks, r.grey, r.position),
+        machine::IDLE => idle_legal(r.grey, r.position),
+        machine::MARKING => marking_legal(r.blocks, r.grey, r.position),
+        machine::SWEEPING => sweeping_legal(r.blocks, r.grey, r.position),
         _ => false,
     }
 }
@@ -106,9 +106,9 @@ pub fn entry(r: Regs, words: &[u32], colours: &[u32], bytes: &[u8]) -> u32
         if legal(r) {
             return 0;
         }
-        return 2;
+        return machine::ILLEGAL;
     }
-    1
+    machine::UNFIT
 }
 
 // Refusal 3 for a block and a word.
@@ -121,7 +121,7 @@ pub fn word_refusal(m: u32, b: u32, w: u32) -> u32
             return 0;
         }
     }
-    3
+    machine::NO_PLACE
 }
 
 // Refusal 3 for the holder of a new block: 0, 0 is the root.
@@ -133,7 +133,7 @@ pub fn holder_place(m: u32, b: u32, w: u32) -> u32
         if w == 0 {
             return 0;
         }
-        return 3;
+        return machine::NO_PLACE;
     }
     word_refusal(m, b, w)
 }
@@ -146,14 +146,14 @@ pub fn target_place(m: u32, t: u32) -> u32
     if is_block_or_none(m, t) {
         return 0;
     }
-    4
+    machine::NO_TARGET
 }
 
 // Whether a white block b is doomed: the one place that looks at phase and position for it.
 pub fn doomed_white(phase: u32, position: u32, b: u32) -> bool
     ensures { λ x. ⌜ ((r : Regs) → r .phase ≡ phase → r .position ≡ position → x ≡ doomedWhite r b) ⌝ }
 {
-    phase == 2 && position <= b
+    phase == machine::SWEEPING && position <= b
 }
 
 // What a call may do with the block b of colour c.
@@ -195,7 +195,7 @@ pub fn refusal_of(gone: u32, s: Standing) -> u32
     match s {
         Standing::Live => 0,
         Standing::Gone => gone,
-        Standing::Damaged => 8,
+        Standing::Damaged => machine::DAMAGE,
     }
 }
 
@@ -204,7 +204,7 @@ pub fn holder_refusal(m: u32, phase: u32, position: u32, colours: &[u32], b: u32
     requires { ⌜ (m ≤ 16384) × Block (length (now colours)) b ⌝ }
     ensures { λ x. ⌜ ((r : Regs) (ws bs : List ℕ) → r .blocks ≡ m → r .phase ≡ phase → r .position ≡ position → x ≡ holderRefusal (heap r ws (now (colours .entry)) bs) b) ⌝ }
 {
-    refusal_of(5, standing_of(m, phase, position, colours, b))
+    refusal_of(machine::GONE, standing_of(m, phase, position, colours, b))
 }
 
 // Refusals 8 and 6 for the target, which is 0 or a block.
@@ -215,7 +215,10 @@ pub fn target_refusal(m: u32, phase: u32, position: u32, colours: &[u32], t: u32
     if t == 0 {
         return 0;
     }
-    refusal_of(6, standing_of(m, phase, position, colours, t))
+    refusal_of(
+        machine::TARGET_GONE,
+        standing_of(m, phase, position, colours, t),
+    )
 }
 
 // Every refusal of Read, where 1 and 2 are known, e: then 3, then 8 and 5. Who reads many blocks tests for 1 and 2 once.

@@ -50,7 +50,7 @@ pub fn count_greys(m: u32, colours: &[u32]) -> u32
     ensures { λ r. ⌜ r ≡ countFrom (isGrey m (now (colours .entry))) m 2 ⌝ }
 {
     let mut n = 0;
-    let mut b = 2;
+    let mut b = machine::FIRST;
     while b <= m + 1 {
         n += one(is_grey(m, colours, b));
         b += 1;
@@ -73,7 +73,7 @@ pub fn walk_greys(m: u32, colours: &[u32], head: u32, n: u32) -> bool
             return false;
         }
     }
-    a == 1
+    a == machine::NO_GREY
 }
 
 // Whether the grey list that starts at head has exactly the grey blocks.

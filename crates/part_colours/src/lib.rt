@@ -14,13 +14,6 @@ ghost use Rattle.machine.specs.Colouring.{colour, colourWord, paint, toGrey, to
 ghost use Rattle.machine.specs.Seen.{seen};
 ghost use Rattle.machine.specs.Tests.{if_then_else_};
 
-// The colour words that are no link.
-pub const WHITE: u32 = 0;
-
-pub const BLACK: u32 = 4_294_967_295;
-
-pub const FREE: u32 = 4_294_967_294;
-
 // Whether b is a block number in a heap of m blocks.
 pub fn is_block(m: u32, b: u32) -> bool
     requires { ⌜ m ≤ 16384 ⌝ }
@@ -35,9 +28,9 @@ pub fn colour(m: u32, word: u32) -> Colour
     ensures { λ r. ⌜ r ≡ colour m word ⌝ }
 {
     match word {
-        0 => Colour::White,
-        4294967295 => Colour::Black,
-        4294967294 => Colour::Free,
+        machine::WHITE => Colour::White,
+        machine::BLACK => Colour::Black,
+        machine::FREE => Colour::Free,
         _ => {
             if word <= m + 1 {
                 Colour::Grey
@@ -72,7 +65,7 @@ pub fn word_met(m: u32, colours: &[u32], b: u32) -> u32
     if is_block(m, b) {
         return word_of(colours, b);
     }
-    0
+    machine::WHITE
 }
 
 // Whether a block of the colour is free.
@@ -103,7 +96,7 @@ pub fn to_black(head: u32, colours: &mut [u32]) -> u32
     ensures { λ r. ⌜ (record { head = r; cells = now (colours .exit) }) ≡ toBlack (record { head = head; cells = now (colours .entry) }) ⌝ }
 {
     let next = word_of(&colours[..], head);
-    paint(colours, head, BLACK);
+    paint(colours, head, machine::BLACK);
     next
 }
 
@@ -113,7 +106,7 @@ pub fn grey_white(head: u32, colours: &mut [u32], b: u32) -> u32
     ensures { λ r. ⌜ (record { head = r; cells = now (colours .exit) }) ≡ greyWhite (length (now (colours .entry))) b (record { head = head; cells = now (colours .entry) }) ⌝ }
 {
     if b != 0 {
-        if word_of(&colours[..], b) == 0 {
+        if word_of(&colours[..], b) == machine::WHITE {
             return to_grey(head, colours, b);
         }
     }
@@ -130,10 +123,10 @@ pub fn seen(m: u32, colours: &[u32], b: u32) -> Seen
     }
     if is_block(m, b) {
         let word = word_of(colours, b);
-        if word == WHITE {
+        if word == machine::WHITE {
             return Seen::ToGrey;
         }
-        if word == BLACK {
+        if word == machine::BLACK {
             return Seen::Settled;
         }
         if word <= m + 1 {
@@ -149,7 +142,7 @@ pub fn fresh(colours: &mut [u32])
 {
     let mut i = 0;
     while i < colours.len() {
-        colours[i] = FREE;
+        colours[i] = machine::FREE;
         i += 1;
     }
 }

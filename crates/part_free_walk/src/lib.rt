@@ -26,7 +26,7 @@ fn count_frees(m: u32, colours: &[u32]) -> u32
     ensures { λ x. ⌜ x ≡ countFrom (isFree m (now (colours .entry))) m 2 ⌝ }
 {
     let mut n = 0;
-    let mut b = 2;
+    let mut b = machine::FIRST;
     while b <= m + 1 {
         n += part_colours::layout::one(is_free(m, colours, b));
         b += 1;

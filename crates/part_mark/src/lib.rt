@@ -130,7 +130,7 @@ pub fn marks(r: Regs, words: &[u32], colours: &mut [u32], bytes: &[u8], n: u32) 
 {
     let mut s = r;
     let mut left = n;
-    while left != 0 && s.grey != 1 {
+    while left != 0 && s.grey != machine::NO_GREY {
         let Progress::Done(next) = mark_unit(s, words, colours, bytes) else {
             return Stretch {
                 regs: s,

@@ -15,7 +15,7 @@ pub fn barrier(r: Regs, colours: &mut [u32], t: u32) -> Regs
     ensures { λ s. ⌜ ((ws bs : List ℕ) → heap s ws (now (colours .exit)) bs ≡ barrier t (heap r ws (now (colours .entry)) bs)) ⌝ }
 {
     let mut s = r;
-    if r.phase == 1 {
+    if r.phase == machine::MARKING {
         let head = part_colours::grey_white(r.grey, colours, t);
         s.grey = head;
     }

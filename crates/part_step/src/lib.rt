@@ -25,14 +25,14 @@ pub fn step(m: u32, phase: u32, grey: u32, word: u32) -> Step
     ensures { λ s. ⌜ s ≡ step m phase grey word ⌝ }
 {
     match phase {
-        0 => match word {
-            0 => Step::Begin,
+        machine::IDLE => match word {
+            machine::WHITE => Step::Begin,
             _ => Step::Damage,
         },
-        1 => match grey {
-            1 => Step::Turn,
+        machine::MARKING => match grey {
+            machine::NO_GREY => Step::Turn,
             _ => match word {
-                1..=4294967295 => {
+                1..=machine::BLACK => {
                     if word <= m + 1 {
                         Step::Mark
                     } else {
@@ -42,10 +42,10 @@ pub fn step(m: u32, phase: u32, grey: u32, word: u32) -> Step
                 _ => Step::Damage,
             },
         },
-        2 => match word {
-            0 => Step::Reclaim,
-            4294967294..=4294967295 => {
-                if word == 4294967295 {
+        machine::SWEEPING => match word {
+            machine::WHITE => Step::Reclaim,
+            machine::FREE..=machine::BLACK => {
+                if word == machine::BLACK {
                     Step::Whiten
                 } else {
                     Step::Pass

@@ -45,7 +45,7 @@ pub fn settled(r: Regs) -> Regs
 {
     let mut s = r;
     if r.position == sweep_end(r) + 1 {
-        s.phase = 0;
+        s.phase = machine::IDLE;
         s.position = 0;
     }
     s
@@ -73,7 +73,7 @@ pub fn reclaim(r: Regs, words: &mut [u32], colours: &mut [u32], bytes: &mut [u8]
     }
     let at = 8 * (r.position as usize - 2);
     part_cells::clear(&mut words[at..at + 8], r.free);
-    part_colours::paint(colours, r.position, part_colours::FREE);
+    part_colours::paint(colours, r.position, machine::FREE);
     part_cells::clear_byte(bytes, r.position);
     let mut s = r;
     s.free = r.position;
@@ -86,7 +86,7 @@ pub fn whiten(r: Regs, colours: &mut [u32]) -> Regs
     requires { ⌜ (r .blocks ≤ 16384) × (length (now colours) ≡ r .blocks) × Block (r .blocks) (r .position) ⌝ }
     ensures { λ s. ⌜ ((ws bs : List ℕ) → heap (settled s) ws (now (colours .exit)) bs ≡ whitened (heap r ws (now (colours .entry)) bs)) × (s ≡ withPosition (r .position + 1) r) ⌝ }
 {
-    part_colours::paint(colours, r.position, part_colours::WHITE);
+    part_colours::paint(colours, r.position, machine::WHITE);
     onward(r)
 }
 

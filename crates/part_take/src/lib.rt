@@ -28,32 +28,32 @@ pub fn list_refusal(r: Regs, words: &[u32], colours: &[u32]) -> u32
 {
     if r.free == 0 {
         if r.count == 0 {
-            return 7;
+            return machine::NO_ROOM;
         }
-        return 8;
+        return machine::DAMAGE;
     }
     if r.count == 0 {
-        return 8;
+        return machine::DAMAGE;
     }
     if first_fits(r, words, colours) {
         return 0;
     }
-    8
+    machine::DAMAGE
 }
 
 // The colour word of the new block b.
 pub fn new_colour(r: Regs, b: u32) -> u32
     ensures { λ x. ⌜ x ≡ newColour r b ⌝ }
 {
-    if r.phase == 1 {
-        return part_colours::BLACK;
+    if r.phase == machine::MARKING {
+        return machine::BLACK;
     }
-    if r.phase == 2 {
+    if r.phase == machine::SWEEPING {
         if r.position <= b {
-            return part_colours::BLACK;
+            return machine::BLACK;
         }
     }
-    part_colours::WHITE
+    machine::WHITE
 }
 
 // The first free block is taken off the free list, its word 0 zeroed, and coloured. Answers the registers afterwards.

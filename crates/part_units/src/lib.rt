@@ -28,7 +28,7 @@ pub fn begin(r: Regs, colours: &mut [u32]) -> Regs
     ensures { λ s. ⌜ ((ws bs : List ℕ) → heap s ws (now (colours .exit)) bs ≡ begun (heap r ws (now (colours .entry)) bs)) ⌝ }
 {
     let mut s = r;
-    s.phase = 1;
+    s.phase = machine::MARKING;
     s.cycle = std::num::wrapping_add_u32(r.cycle, 1);
     if r.root == 0 {
         return s;
@@ -43,8 +43,8 @@ pub fn turn(r: Regs) -> Regs
     ensures { λ s. ⌜ ((ws cs bs : List ℕ) → heap s ws cs bs ≡ turned (heap r ws cs bs)) ⌝ }
 {
     let mut s = r;
-    s.phase = 2;
-    s.position = 2;
+    s.phase = machine::SWEEPING;
+    s.position = machine::FIRST;
     s
 }
 
@@ -56,8 +56,8 @@ pub fn met_word(r: Regs, colours: &[u32]) -> u32
 {
     let phase = r.phase;
     match phase {
-        0 => part_colours::word_met(r.blocks, colours, r.root),
-        1 => part_colours::word_met(r.blocks, colours, r.grey),
+        machine::IDLE => part_colours::word_met(r.blocks, colours, r.root),
+        machine::MARKING => part_colours::word_met(r.blocks, colours, r.grey),
         _ => part_colours::word_of(colours, r.position),
     }
 }
@@ -108,7 +108,7 @@ pub fn run(r: Regs, words: &mut [u32], colours: &mut [u32], bytes: &mut [u8], n:
             return Ran {
                 regs: t,
                 units: n - left + o.units,
-                refusal: 8,
+                refusal: machine::DAMAGE,
             };
         };
         s = t;

@@ -2,7 +2,7 @@
 use crate::night;
 use crate::night::Night;
 use call_export::Exported;
-use text_lines::Command;
+use text_commands::Command;
 
 // What the export answered, and the night after it.
 pub(crate) struct Tried {

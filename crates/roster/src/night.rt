@@ -1,8 +1,8 @@
 // A night: rows are stored behind one another, with garbage made after each, and exported.
 use call_export::Exported;
 use machine::Regs;
-use text_lines::Command;
-use text_lines::Said;
+use text_commands::Command;
+use text_commands::Said;
 
 // The list while it grows: the registers, its first and its last block, the blocks of row 6,144 and of the row following it, what the
 // last call gave, and how many calls were refused.

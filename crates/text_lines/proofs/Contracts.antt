@@ -20,10 +20,11 @@ use Rattle.machine.specs.Store.{storeNumber, storeRefusal, storeReference, root
 use Rattle.machine.specs.Allocate.{allocate}
 use Rattle.machine.specs.Work.{work}
 use Rattle.machine.specs.Audit.{passes, audit}
-use Rattle.text_lines.specs.declared.Command.{Command}
-use Rattle.text_lines.specs.declared.Command.the-variants.{Format, Read, StoreNumber, StoreReference, SetRoot, Allocate, Work, Audit, Broken}
-use Rattle.text_lines.specs.Command.{commandOf}
-use Rattle.text_lines.specs.Line.{Spoken, spoken, said, performed, blocksOf, front, back, within, lineGives}
+use Rattle.text_commands.specs.declared.Command.{Command}
+use Rattle.text_commands.specs.declared.Command.the-variants.{Format, Read, StoreNumber, StoreReference, SetRoot, Allocate, Work, Audit, Broken}
+use Rattle.text_commands.specs.Command.{commandOf}
+use Rattle.text_commands.specs.Saying.{Spoken, spoken, said, blocksOf}
+use Rattle.text_lines.specs.Line.{performed, front, back, within, lineGives}
 use Rattle.text_lines.specs.Contracts.{NoSecondOutcome, Greatest, Rules}
 
 pub no-second-outcome : NoSecondOutcome

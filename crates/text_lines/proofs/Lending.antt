@@ -14,10 +14,11 @@ use lib.Seq.{take-all, take-length, drop-length}
 use borrow.Author.Tests.{leb-true, leb-false}
 use Rattle.machine.specs.declared.Regs.{Regs}
 use Rattle.machine.specs.Heap.{Heap, heap}
-use Rattle.text_lines.specs.declared.Said.{Said}
-use Rattle.text_lines.specs.declared.Command.{Command}
-use Rattle.text_lines.specs.Command.{commandOf}
-use Rattle.text_lines.specs.Line.{Spoken, said, performed, blocksOf, front, back, lineGives}
+use Rattle.text_commands.specs.declared.Said.{Said}
+use Rattle.text_commands.specs.declared.Command.{Command}
+use Rattle.text_commands.specs.Command.{commandOf}
+use Rattle.text_commands.specs.Saying.{Spoken, said, blocksOf}
+use Rattle.text_lines.specs.Line.{performed, front, back, lineGives}
 
 pub asks : {c d : Command} {s : Spoken} (h : Heap) → c ≡ d → s ≡ performed d h → s ≡ performed c h
 asks h e f = rw e f

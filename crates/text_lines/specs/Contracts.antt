@@ -10,11 +10,12 @@ use mathlib.Core.Logic.{_≢_}
 use mathlib.Core.List.{List}
 use lib.ListN.{length}
 use Rattle.machine.specs.Heap.{Heap}
-use Rattle.text_lines.specs.declared.Said.{Said}
-use Rattle.text_lines.specs.declared.Command.{Command}
-use Rattle.text_lines.specs.declared.Command.the-variants.{Format, Audit, Broken}
-use Rattle.text_lines.specs.Command.{commandOf}
-use Rattle.text_lines.specs.Line.{Spoken, spoken, said, lineGives}
+use Rattle.text_commands.specs.declared.Said.{Said}
+use Rattle.text_commands.specs.declared.Command.{Command}
+use Rattle.text_commands.specs.declared.Command.the-variants.{Format, Audit, Broken}
+use Rattle.text_commands.specs.Command.{commandOf}
+use Rattle.text_commands.specs.Saying.{Spoken, spoken, said}
+use Rattle.text_lines.specs.Line.{lineGives}
 
 pub record Same (s t : Said) (ws xs cs ds bs es : List ℕ) : Type 0 where
   pub said : s ≡ t

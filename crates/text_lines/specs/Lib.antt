@@ -1,4 +1,3 @@
--- What a line of text asks for, and what it gives.
-pub mod Command
+-- What a line of text gives.
 pub mod Line
 pub mod Contracts

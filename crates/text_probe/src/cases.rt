@@ -2,8 +2,8 @@
 // each number after a space.
 use super::heaps;
 use machine::Regs;
-use text_lines::Command;
-use text_lines::Numbers;
+use text_commands::Command;
+use text_commands::Numbers;
 use text_numbers::Cursor;
 use text_numbers::Number;
 
@@ -184,7 +184,7 @@ fn others_zero(a: Asked, n: u32) -> bool {
 pub(crate) fn command(a: Asked) -> Command {
     let n = arguments(a.letter);
     if others_zero(a, n) {
-        return text_lines::asked(
+        return text_commands::asked(
             a.letter,
             Numbers {
                 count: n,

@@ -1,6 +1,6 @@
 // The numbers of a heap in the order of a case: its words, its colours, its bytes.
-use text_lines::Said;
-use text_streams::Output;
+use text_commands::Said;
+use text_output::Output;
 ghost use Prim.Native.Nat.{_≤_};
 
 // Stores v at the place i of the three buffers one after another. Answers whether there is such a place and it can hold v.
@@ -95,8 +95,8 @@ pub(crate) fn put(
     let mut p = o;
     let mut i = 0;
     while i < last {
-        p = text_streams::put(out, p, number(s, words, colours, bytes, i) as u64, 32);
+        p = text_output::put(out, p, number(s, words, colours, bytes, i) as u64, 32);
         i += 1;
     }
-    text_streams::put(out, p, number(s, words, colours, bytes, last) as u64, 10)
+    text_output::put(out, p, number(s, words, colours, bytes, last) as u64, 10)
 }

@@ -5,10 +5,10 @@ mod heaps; // heaps.rt: the numbers of a heap, in their order
 use cases::Asked;
 use cases::Head;
 use machine::Regs;
-use text_lines::Command;
-use text_lines::Said;
+use text_commands::Command;
+use text_commands::Said;
+use text_output::Output;
 use text_streams::Input;
-use text_streams::Output;
 ghost use Prim.Native.Nat.{_≤_};
 ghost use lib.ListN.{length};
 
@@ -33,7 +33,7 @@ fn looked(r: Regs, words: &[u32], colours: &[u32], bytes: &[u8], b: u32) -> Said
 
 // What a line says that is no case.
 fn put_broken(out: &mut [u8; 65536], o: Output) -> Output {
-    text_streams::put_three(out, o, 99, 0, 0)
+    text_output::put_three(out, o, 99, 0, 0)
 }
 
 // Does the call, once the buffers are filled, and puts what comes of it. The buffers have so many numbers in all.
@@ -138,7 +138,7 @@ fn do_line(
     if !i.ready {
         return o;
     }
-    let text = text_streams::start_of(line, i.kept);
+    let text = text_output::start_of(line, i.kept);
     do_case(text, words, colours, bytes, out, o)
 }
 
@@ -152,14 +152,14 @@ fn drive(
     out: &mut [u8; 65536],
 ) {
     let mut i = text_streams::start();
-    let mut o = text_streams::empty();
+    let mut o = text_output::empty();
     let mut turns = u64::MAX;
     while turns > 0 && text_streams::goes_on(i, o) {
         i = text_streams::next(i, input, line);
         o = do_line(words, colours, bytes, line, i, out, o);
         turns -= 1;
     }
-    text_streams::flush(out, o);
+    text_output::flush(out, o);
 }
 
 // Does the cases of standard input, with at most 64 words, 8 colours and 8 bytes. Of a line 1,201 bytes are kept: more than 1,200

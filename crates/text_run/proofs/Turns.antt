@@ -9,11 +9,12 @@ use native.Mathlib.Omega.{arith}
 use lib.ListN.{take}
 use Rattle.machine.specs.declared.Regs.{Regs}
 use Rattle.machine.specs.Heap.{Heap, heap}
-use Rattle.text_lines.specs.declared.Said.{Said}
-use Rattle.text_lines.specs.Line.{Spoken, said, lineGives}
+use Rattle.text_commands.specs.declared.Said.{Said}
+use Rattle.text_commands.specs.Saying.{Spoken, said}
+use Rattle.text_lines.specs.Line.{lineGives}
 use Rattle.text_streams.specs.declared.input.Input.{Input}
-use Rattle.text_streams.specs.declared.output.Output.{Output}
-use Rattle.text_streams.specs.Output.{PutThree}
+use Rattle.text_output.specs.declared.Output.{Output}
+use Rattle.text_output.specs.Output.{PutThree}
 use Rattle.text_run.specs.Doing.{Did, Turn}
 
 never : (t : Bool) → t ≡ true → t ≡ false → ⊥

@@ -10,10 +10,11 @@ use mathlib.Core.List.{List}
 use lib.ListN.{take}
 use Rattle.machine.specs.declared.Regs.{Regs}
 use Rattle.machine.specs.Heap.{Heap, heap}
-use Rattle.text_lines.specs.Line.{Spoken, lineGives}
+use Rattle.text_commands.specs.Saying.{Spoken}
+use Rattle.text_lines.specs.Line.{lineGives}
 use Rattle.text_streams.specs.declared.input.Input.{Input}
-use Rattle.text_streams.specs.declared.output.Output.{Output}
-use Rattle.text_streams.specs.Output.{PutThree}
+use Rattle.text_output.specs.declared.Output.{Output}
+use Rattle.text_output.specs.Output.{PutThree}
 use Rattle.text_run.specs.declared.Done.{Done}
 
 -- s is what the line gives

@@ -1,7 +1,7 @@
 // Lines from standard input, done one after another, with what they say on standard output. The memory taken is constant.
 use machine::Regs;
+use text_output::Output;
 use text_streams::Input;
-use text_streams::Output;
 ghost use Rattle.text_run.specs.Doing.{Turn};
 
 // What a line leaves behind: the registers, and what waits to be written.
@@ -39,12 +39,12 @@ fn do_line(
     ensures { λ d. ⌜ Turn r (now (words .entry)) (now (colours .entry)) (now (bytes .entry)) (now (line .entry)) i (now (out .entry)) o d (now (words .exit)) (now (colours .exit)) (now (bytes .exit)) (now (out .exit)) ⌝ }
 {
     if i.ready {
-        let text = text_streams::start_of(line, i.kept);
+        let text = text_output::start_of(line, i.kept);
         let said = text_lines::line(r, words, colours, bytes, text);
         let after = said.regs;
         return Done {
             regs: after,
-            output: text_streams::put_three(out, o, said.first, said.second, said.third),
+            output: text_output::put_three(out, o, said.first, said.second, said.third),
         };
     }
     Done { regs: r, output: o }
@@ -61,7 +61,7 @@ fn drive(
 ) {
     let mut r = fresh();
     let mut i = text_streams::start();
-    let mut o = text_streams::empty();
+    let mut o = text_output::empty();
     let mut turns = u64::MAX;
     while turns > 0 && text_streams::goes_on(i, o) {
         i = text_streams::next(i, input, line);
@@ -70,7 +70,7 @@ fn drive(
         o = d.output;
         turns -= 1;
     }
-    text_streams::flush(out, o);
+    text_output::flush(out, o);
 }
 
 // Does the lines of standard input on a heap of at most 1,024 blocks. Of a line 41 bytes are kept: more than 40 break the rules.

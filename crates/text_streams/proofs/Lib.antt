@@ -1,4 +1,3 @@
 -- What is proved of streams alone.
 pub mod Cuts
 pub mod Reading
-pub mod Writing

@@ -1,4 +1,3 @@
--- Lines of a stream of bytes, and what waits to be written.
+-- Lines of a stream of bytes.
 pub mod Streams
 pub mod Input
-pub mod Output

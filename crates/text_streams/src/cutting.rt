@@ -1,4 +1,4 @@
-// Lines out of what was read: cutting them, and the start of a text.
+// Lines out of what was read: cutting them.
 // A line that runs over the edge of what was read is gone on with when more is read, so none is lost or cut there.
 ghost use mathlib.Core.Path.{_≡_};
 ghost use mathlib.Core.List.{[], _∷_, _++_};
@@ -49,14 +49,4 @@ pub(crate) fn cut_line(input: &[u8], from: usize, line: &mut [u8], kept: usize) 
         length: n,
         ended: false,
     }
-}
-
-// The first n bytes, or all where there are fewer.
-pub fn start_of(text: &[u8], n: usize) -> &[u8]
-    ensures { λ r. ⌜ now r ≡ take n (now (text .entry)) ⌝ }
-{
-    if n <= text.len() {
-        return &text[..n];
-    }
-    text
 }

@@ -1,17 +1,11 @@
-// Streams of bytes: lines out of standard input, numbers into standard output, and a word on standard error where one of them fails.
+// Lines out of standard input, and a word on standard error where reading fails.
 mod cutting; // cutting.rt: lines out of what was read
 mod input; // input.rt: reading
-mod output; // output.rt: what waits to be written
 
-pub use cutting::start_of;
 pub use input::Input;
 pub use input::next;
 pub use input::start;
-pub use output::Output;
-pub use output::empty;
-pub use output::flush;
-pub use output::put;
-pub use output::put_three;
+use text_output::Output;
 ghost use mathlib.Core.Path.{_≡_};
 ghost use mathlib.Core.Bool.{_&&_};
 

@@ -12,4 +12,4 @@ pub dergamoyne-format-spec : {M : Type 1} → statement M
 unfolding code.routine
 dergamoyne-format-spec 𝓤 H 𝓜 𝓖 𝓡 =
     lends 2 (λ m. format (m .0) (m .1 .0)) (all 2) (λ m h. tt) core.name 𝓤 H 𝓜 𝓖 𝓡 code.env name (code.unfolded 𝓤 H 𝓜 𝓡)
-    core.routine code.calls-formatting·format (core-thm.met 𝓤 H 𝓜 𝓖 𝓡)
+    core.routine code.calls-call-format·format (core-thm.met 𝓤 H 𝓜 𝓖 𝓡)

@@ -14,4 +14,4 @@ pub dergamoyne-set-root-spec : {M : Type 1} → statement M
 unfolding code.routine
 dergamoyne-set-root-spec 𝓤 H 𝓜 𝓖 𝓡 =
     lends 1 (λ m. setRoot (m .0)) (only (grey ∷ root ∷ []) 1) (λ m h. root-keeps (m .0) h) core.name 𝓤 H 𝓜 𝓖 𝓡 code.env name (code.unfolded 𝓤 H 𝓜 𝓡)
-    core.routine code.calls-storing·set-root (core-thm.met 𝓤 H 𝓜 𝓖 𝓡)
+    core.routine code.calls-call-store·set-root (core-thm.met 𝓤 H 𝓜 𝓖 𝓡)

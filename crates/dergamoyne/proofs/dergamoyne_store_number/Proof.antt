@@ -13,4 +13,4 @@ pub dergamoyne-store-number-spec : {M : Type 1} → statement M
 unfolding code.routine
 dergamoyne-store-number-spec 𝓤 H 𝓜 𝓖 𝓡 =
     lends 3 (λ m. storeNumber (m .0) (m .1 .0) (m .1 .1 .0)) (nothing 3) (λ m h. number-keeps (m .0) (m .1 .0) (m .1 .1 .0) h) core.name 𝓤 H 𝓜 𝓖 𝓡 code.env name (code.unfolded 𝓤 H 𝓜 𝓡)
-    core.routine code.calls-storing·store-number (core-thm.met 𝓤 H 𝓜 𝓖 𝓡)
+    core.routine code.calls-call-store·store-number (core-thm.met 𝓤 H 𝓜 𝓖 𝓡)

@@ -14,4 +14,4 @@ pub dergamoyne-store-reference-spec : {M : Type 1} → statement M
 unfolding code.routine
 dergamoyne-store-reference-spec 𝓤 H 𝓜 𝓖 𝓡 =
     lends 3 (λ m. storeReference (m .0) (m .1 .0) (m .1 .1 .0)) (only (grey ∷ []) 3) (λ m h. reference-keeps (m .1 .1 .0) h (m .0) (m .1 .0)) core.name 𝓤 H 𝓜 𝓖 𝓡 code.env name (code.unfolded 𝓤 H 𝓜 𝓡)
-    core.routine code.calls-storing·store-reference (core-thm.met 𝓤 H 𝓜 𝓖 𝓡)
+    core.routine code.calls-call-store·store-reference (core-thm.met 𝓤 H 𝓜 𝓖 𝓡)

@@ -12,4 +12,4 @@ pub dergamoyne-work-spec : {M : Type 1} → statement M
 unfolding code.routine
 dergamoyne-work-spec 𝓤 H 𝓜 𝓖 𝓡 =
     lends 1 (λ m. work (m .0)) (all 1) (λ m h. tt) core.name 𝓤 H 𝓜 𝓖 𝓡 code.env name (code.unfolded 𝓤 H 𝓜 𝓡)
-    core.routine code.calls-working·work (core-thm.met 𝓤 H 𝓜 𝓖 𝓡)
+    core.routine code.calls-call-work·work (core-thm.met 𝓤 H 𝓜 𝓖 𝓡)

@@ -1,6 +1,7 @@
 -- `text_lines::perform` meets its contract: what each call gives, as it is said. Assumes nothing.
 use mathlib.Core.Path.{refl, ap}
-use Rattle.text_lines.specs.Line.{said, performed}
+use Rattle.text_commands.specs.Saying.{said}
+use Rattle.text_lines.specs.Line.{performed}
 use Rattle.text_lines.proofs.Lending.{asks}
 use borrow.Author.Needs.{needs}
 use Rattle.text_lines.proofs.perform.Statement.{statement}

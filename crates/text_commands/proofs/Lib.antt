@@ -1,0 +1,4 @@
+-- What is proved of commands alone.
+pub mod Packing
+pub mod Gathering
+pub mod Naming

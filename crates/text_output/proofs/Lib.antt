@@ -1,0 +1,2 @@
+-- What is proved of output alone.
+pub mod Writing

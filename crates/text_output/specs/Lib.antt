@@ -1,0 +1,2 @@
+-- What waits to be written.
+pub mod Output
