@@ -31,7 +31,8 @@ stored : (l : List ℕ) (x0 x1 x2 x3 x4 x5 x6 x7 : ℕ) → length l ≡ 8
 stored l x0 x1 x2 x3 x4 x5 x6 x7 e = rw (eight l e) refl
 
 pub eight-copied : (to from : List ℕ) → length to ≡ 8 → length from ≡ 8
-    → set (set (set (set (set (set (set (set to 0 (getD from 0 0)) 1 (getD from 1 0)) 2 (getD from 2 0)) 3 (getD from 3 0)) 4 (getD from 4 0)) 5 (getD from 5 0)) 6 (getD from 6 0)) 7 (getD from 7 0) ≡ from
+    → set (set (set (set (set (set (set (set to 0 (getD from 0 0)) 1 (getD from 1 0)) 2 (getD from 2 0)) 3 (getD from 3 0)) 4 (getD from 4 0))
+    5 (getD from 5 0)) 6 (getD from 6 0)) 7 (getD from 7 0) ≡ from
 eight-copied to from e f = stored to _ _ _ _ _ _ _ _ e ∙ sym (eight from f)
 
 module _ (ws out : List ℕ) (b n : ℕ) where

@@ -161,7 +161,8 @@ module _ (h : Heap) where
     unfolding allocate
     allocate-off x z e m a = unless-stops _ (passes x z e) m a
 
-    pub allocate-goes : {x units : ℕ} {e : RunEnd} → x ≡ entry h → x ≡ 0 → n ≡ holderPlace (h .regs .blocks) b w → n ≡ 0 → units ≡ unitsDue (h .regs) → e ≡ run units 0 h → g ≡ allocated b w e → g ≡ allocate b w h
+    pub allocate-goes : {x units : ℕ} {e : RunEnd} → x ≡ entry h → x ≡ 0 → n ≡ holderPlace (h .regs .blocks) b w → n ≡ 0
+        → units ≡ unitsDue (h .regs) → e ≡ run units 0 h → g ≡ allocated b w e → g ≡ allocate b w h
     unfolding allocate
     allocate-goes x z e m u d a = unless-passes h (passes x z e) m (a ∙ ap (allocated b w) (d ∙ ap (λ (k : ℕ). run k 0 h) u))
 

@@ -3,6 +3,7 @@
 --     set-fits, clear-fits     a byte stays a byte when a clear bit is set or a set bit is cleared
 --     bit-set, bit-was-set, bit-cleared, bit-was-clear     the two ways of setBit and of clearBit
 --     eight-stores             eight words after the stores that free a block
+--     free-rest                its words but the first are 0
 --     set-here, set-there, clear-here, clear-there     a byte's bits after one of them is set or cleared: that bit, and any other
 -- Assumes nothing.
 use Prim.Native.Nat.{ℕ, zero, suc, _+_, _-_, _*_, _/_, _%_, _^_, _≤_, _<_}
@@ -13,7 +14,7 @@ use mathlib.Core.List.{List, [], _∷_}
 use native.Mathlib.Nat.{pow-suc, mul-comm, one-le-pow, add-div-right, div-eq-sub-div, div-eq-of-lt, div-div-eq-div-mul}
 use native.Mathlib.Omega.{arith}
 use lib.Dec.{eqb, leb}
-use lib.ListN.{length, set}
+use lib.ListN.{length, getD, set}
 use lib.Seq.{set-getD}
 use borrow.Author.Tests.{eqb-true, eqb-false, eq-eqb, ne-eqb, leb-true, leb-false}
 use Rattle.machine.specs.Block.{index, byteOf, bit, withBit, withoutBit, setBit, clearBit, freeWords}
@@ -68,7 +69,13 @@ module _ (bs : List ℕ) (b w : ℕ) (l : w < 8) where
   unfolding withoutBit
   bit-was-clear e = simp (e, set-getD)
 
-pub eight-stores : (ws : List ℕ) (link : ℕ) → length ws ≡ 8 → set (set (set (set (set (set (set (set ws 0 link) 1 0) 2 0) 3 0) 4 0) 5 0) 6 0) 7 0 ≡ freeWords link
+pub free-rest : (link w : ℕ) → 1 ≤ w → w ≤ 7 → getD (freeWords link) w 0 ≡ 0
+free-rest link w o l =
+    below-eight (λ v. 1 ≤ v → getD (freeWords link) v 0 ≡ 0) (λ i. absurd (omega arith)) (λ i. refl) (λ i. refl) (λ i. refl) (λ i. refl) (λ i. refl)
+    (λ i. refl) (λ i. refl) w (omega arith) o
+
+pub eight-stores : (ws : List ℕ) (link : ℕ) → length ws ≡ 8
+    → set (set (set (set (set (set (set (set ws 0 link) 1 0) 2 0) 3 0) 4 0) 5 0) 6 0) 7 0 ≡ freeWords link
 eight-stores [] link e = absurd (omega arith)
 eight-stores (a ∷ []) link e = absurd (omega arith)
 eight-stores (a ∷ b ∷ []) link e = absurd (omega arith)

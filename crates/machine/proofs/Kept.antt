@@ -108,14 +108,18 @@ begun-kept h d i =
     (λ e. c)
     (λ e. ready-colours (ready-grey c (h .regs .root) (head-of-block _ _ (d .root (eqb-false _ _ e)))) _ (simp length-set))
 
-pub marked-kept : (h : Heap) → Ready h → h .regs .phase ≡ marking → Block (h .regs .blocks) (h .regs .grey) → colour (h .regs .blocks) (colourWord (h .colours) (h .regs .grey)) ≡ Grey → Ready (marked h)
+pub marked-kept : (h : Heap) → Ready h → h .regs .phase ≡ marking → Block (h .regs .blocks) (h .regs .grey)
+    → colour (h .regs .blocks) (colourWord (h .colours) (h .regs .grey)) ≡ Grey → Ready (marked h)
 unfolding marked
 marked-kept h d s l g =
-    let k = greyAll-kept (h .regs .blocks) (h .regs .blocks) (referencesOf h (h .regs .grey)) (toBlack (colouring h)) (record { legal = next-legal _ _ g; same = simp length-set (d .colours) }) in
+    let k =
+    greyAll-kept (h .regs .blocks) (h .regs .blocks) (referencesOf h (h .regs .grey)) (toBlack (colouring h))
+    (record { legal = next-legal _ _ g; same = simp length-set (d .colours) }) in
     ready-colours (ready-grey d _ (rw s (k .legal))) _ (k .same ∙ sym (d .colours))
 
 -- while marking, the block met is the grey head
-pub met-grey : (h : Heap) → h .regs .phase ≡ marking → Block (h .regs .blocks) (h .regs .grey) → colour (h .regs .blocks) (colourWord (h .colours) (h .regs .grey)) ≡ colour (h .regs .blocks) (metWord h)
+pub met-grey : (h : Heap) → h .regs .phase ≡ marking → Block (h .regs .blocks) (h .regs .grey)
+    → colour (h .regs .blocks) (colourWord (h .colours) (h .regs .grey)) ≡ colour (h .regs .blocks) (metWord h)
 unfolding metWord metBlock
 met-grey h k b = simp (ne-eqb (h .regs .phase) idle (λ z. absurd (omega arith)), eq-eqb (h .regs .phase) marking k, block-isBlock _ _ b)
 

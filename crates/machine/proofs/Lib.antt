@@ -22,5 +22,6 @@ pub mod Allocating
 pub mod Audits
 pub mod References
 pub mod Passing
+pub mod Computing
 pub mod Cases
 pub mod Contracts

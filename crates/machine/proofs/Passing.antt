@@ -32,7 +32,8 @@ use Rattle.machine.specs.Standing.{doomedWhite, standing}
 use Rattle.machine.specs.Entry.{entry}
 use Rattle.machine.specs.Ready.{Ready}
 use Rattle.machine.specs.Answers.{done}
-use Rattle.machine.specs.Audit.{allFrom, countFrom, walk, legalColour, greyColour, isLegal, isGrey, isFree, layoutPasses, isLive, notWhite, mayBeNamed, mayName, mayNameAll, zeroFrom, mayBeBlack, colourPasses, blockPasses, freesPass, passes, audit}
+use Rattle.machine.specs.Audit.{allFrom, countFrom, walk, legalColour, greyColour, isLegal, isGrey, isFree, layoutPasses, isLive, notWhite, mayBeNamed}
+use Rattle.machine.specs.Audit.{mayName, mayNameAll, zeroFrom, mayBeBlack, colourPasses, blockPasses, freesPass, passes, audit}
 use Rattle.machine.proofs.Tests.{both-true, both, by-test, clash}
 
 module _ (m : ℕ) (cs : List ℕ) (b : ℕ) where

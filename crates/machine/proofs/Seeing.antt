@@ -75,8 +75,12 @@ pub all-named : (m : ℕ) (cs bs : List ℕ) → allSound m cs bs ≡ true → N
 unfolding allSound isAllocated
 all-named m cs [] e = tt
 all-named m cs (b ∷ bs) e =
-    let (s, r) = both-true (sound m cs b) (allSound m cs bs) e in
-    ((λ n. ⊎-elim (λ z. absurd (n (eqb-true b 0 z))) (λ a. isBlock-block m b (both-true (isBlock m b) (allocatedColour (colour m (colourWord cs b))) a .0)) (either-true (eqb b 0) (isAllocated m cs b) s)), all-named m cs bs r)
+    let (s, r) = both-true (sound m cs b) (allSound m cs bs) e in (
+      (λ n. ⊎-elim (λ z. absurd (n (eqb-true b 0 z)))
+          (λ a. isBlock-block m b (both-true (isBlock m b) (allocatedColour (colour m (colourWord cs b))) a .0))
+          (either-true (eqb b 0) (isAllocated m cs b) s)),
+      all-named m cs bs r,
+    )
 
 -- seen with a white block among them, they are 0 or blocks
 pub grey-named : (m n : ℕ) (cs bs : List ℕ) {x : Seen} → x ≡ seenAll false m cs bs → x ≡ ToGrey → n ≡ m → Named n bs

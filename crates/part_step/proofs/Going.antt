@@ -72,7 +72,8 @@ module _ (h : Heap) (n : ℕ) (ws cs bs : List ℕ) where
         (λ i. ap (λ (x : ℕ). run x i h) less ∙ unit-off h r ws cs bs (n - 1) i {p = progress.Damaged} e refl ∙ ap (λ (x : ℕ). stopped 8 x (heap r ws cs bs)) (omega arith))
 
 -- one more unit of a loop that has j units done and x to do: k is the run's heap
-module _ (k : Heap) (n : ℕ) (s : Regs) (ws cs bs : List ℕ) (x j : ℕ) (whole : (i : ℕ) → run n i k ≡ run x (i + j) (heap s ws cs bs)) (ws′ cs′ bs′ : List ℕ) {p : Progress} (e : ended s p ws′ cs′ bs′ ≡ unit (heap s ws cs bs)) where
+module _ (k : Heap) (n : ℕ) (s : Regs) (ws cs bs : List ℕ) (x j : ℕ) (whole : (i : ℕ) → run n i k ≡ run x (i + j) (heap s ws cs bs))
+    (ws′ cs′ bs′ : List ℕ) {p : Progress} (e : ended s p ws′ cs′ bs′ ≡ unit (heap s ws cs bs)) where
   pub loop-on : (t : Regs) → p ≡ Done t → (y l : ℕ) → x ≡ suc y → l ≡ j + 1 → (i : ℕ) → run n i k ≡ run y (i + l) (heap t ws′ cs′ bs′)
   loop-on t q y l a b i =
       whole i ∙ ap (λ (z : ℕ). run z (i + j) (heap s ws cs bs)) a ∙ unit-on (heap s ws cs bs) s t ws′ cs′ bs′ y (i + j) e q ∙ ap (λ (z : ℕ). run y z (heap t ws′ cs′ bs′)) (omega arith)

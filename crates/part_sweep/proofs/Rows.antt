@@ -64,7 +64,9 @@ swept-first n last r ws cs bs d s w =
       phase = s;
       ready = subst (λ (x : Regs). Ready (heap x ws cs bs)) e d;
       whole = λ i.
-          ap (λ (x : Regs). run n i (heap x ws cs bs)) e ∙ ap (λ (x : ℕ). run x i (heap (settled r) ws cs bs)) (none-less n (r .position)) ∙ ap (λ (x : ℕ). run (n - (r .position - r .position)) x (heap (settled r) ws cs bs)) (none-more i (r .position));
+          ap (λ (x : Regs). run n i (heap x ws cs bs)) e
+          ∙ ap (λ (x : ℕ). run x i (heap (settled r) ws cs bs)) (none-less n (r .position))
+          ∙ ap (λ (x : ℕ). run (n - (r .position - r .position)) x (heap (settled r) ws cs bs)) (none-more i (r .position));
     }
 
 module _ (n last : ℕ) (h : Heap) (r s : Regs) (ws cs bs : List ℕ) (d : Swept n last h r s ws cs bs) where
@@ -129,7 +131,8 @@ module _ (n last : ℕ) (h : Heap) (r s : Regs) (ws cs bs : List ℕ) (d : Swept
             blocks = k .1 ∙ d .blocks;
             phase = k .2 ∙ d .phase;
             ready = done-kept (heap s ws cs bs) here-ready s (settled t) ws′ cs′ bs′ (settling p) u (ap settling q);
-            whole = loop-on h n s ws cs bs _ _ here-whole ws′ cs′ bs′ u (settled t) (ap settling q) _ _ (one-less n (s .position) (r .position) (t .position) f a m) (one-more (s .position) (r .position) (t .position) f a);
+            whole = loop-on h n s ws cs bs _ _ here-whole ws′ cs′ bs′ u (settled t) (ap settling q) _ _
+                (one-less n (s .position) (r .position) (t .position) f a m) (one-more (s .position) (r .position) (t .position) f a);
           }
 
     pub stop-nearer : {p : Progress} → Onward s p → (t : Regs) → p ≡ Done t → last - t .position < last - s .position

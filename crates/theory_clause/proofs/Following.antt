@@ -78,7 +78,8 @@ at-word : (ws : List ℕ) (b i : ℕ) → i < 8 → getD (eightWords ws b) i 0 �
 unfolding eightWords
 at-word ws b i l = rw (getD-take, getD-drop) refl
 
-pub eight-same : {h k : Heap} {b : ℕ} → length (eightWords (h .words) b) ≡ 8 → length (eightWords (k .words) b) ≡ 8 → ((v : ℕ) → v ≤ 7 → SameWord h k b v) → eightWords (k .words) b ≡ eightWords (h .words) b
+pub eight-same : {h k : Heap} {b : ℕ} → length (eightWords (h .words) b) ≡ 8 → length (eightWords (k .words) b) ≡ 8
+    → ((v : ℕ) → v ≤ 7 → SameWord h k b v) → eightWords (k .words) b ≡ eightWords (h .words) b
 eight-same {h} {k} {b} p q s =
     ext-getD 0 _ _ (q ∙ sym p)
     (λ i l. let m : i < 8 = omega arith in at-word (k .words) b i m ∙ s i (omega arith) .word ∙ sym (at-word (h .words) b i m))

@@ -14,22 +14,17 @@ use lib.Dec.{eqb}
 use lib.ListN.{getD}
 use Rattle.machine.specs.Tests.{_▷_}
 use Rattle.machine.specs.Heap.{Heap}
-use Rattle.machine.specs.Block.{isBlock, wordOf, byteOf, eightWords, withEight, bit, withBit, withoutBit, referencesFrom}
-use Rattle.machine.specs.Colouring.{colour, greyWhite, greyAll, isAllocated, headLegal}
-use Rattle.machine.specs.Standing.{doomedWhite, standing, standingOf, holderRefusal, targetRefusal}
-use Rattle.machine.specs.Entry.{numbersFit, lengthsFit, fits, isBlockOrNone, positionLegal, legal, entry, wordRefusal, holderPlace, targetPlace}
-use Rattle.machine.specs.Answers.{unless}
-use Rattle.machine.specs.OneUnit.{step, metBlock, metWord, begun, marked, allSound, turned, advance, reclaimed, whitened, passed, act, unit}
+use Rattle.machine.specs.Block.{wordOf, byteOf, bit}
+use Rattle.machine.specs.Entry.{entry, holderPlace}
 use Rattle.machine.specs.Units.{run}
-use Rattle.machine.specs.Format.{freeList, formatted, format}
-use Rattle.machine.specs.Read.{readRefusal, readAnswer, read}
-use Rattle.machine.specs.Store.{barrier, putNumber, putReference, storeNumber, storeRefusal, storeReference, rootRefusal, setRoot}
-use Rattle.machine.specs.Allocate.{unitsDue, firstFits, listRefusal, newColour, taken, held, takeRefusal, allocated, allocate}
-use Rattle.machine.specs.Work.{countRefusal, work}
-use Rattle.machine.specs.Session.{Call, does, session, lastOf}
+use Rattle.machine.specs.Format.{formatted}
+use Rattle.machine.specs.Allocate.{unitsDue, takeRefusal}
+use Rattle.machine.specs.Work.{countRefusal}
+use Rattle.machine.specs.Session.{Call, session, lastOf}
 use Rattle.machine.specs.Session.Call.{Format, StoreNumber, StoreReference, SetRoot, Allocate, Work}
 use Rattle.machine.specs.WellFormed.{Names, WellFormed}
 use Rattle.machine.proofs.Tests.{if-ind, clash}
+use Rattle.machine.proofs.Computing.{the-machine}
 use Rattle.theory_promises.specs.Deeds.{Act, aTake, Written, RootSet}
 use Rattle.theory_promises.specs.Plans.{plan}
 use Rattle.theory_promises.specs.Demand2.{TouchesCall, ChangesRoot, Untouched}
@@ -133,7 +128,7 @@ record Computed : Type 0 where
   dropped : Dropped
 
 computed : Computed
-unfolding _▷_ isBlock eightWords withEight bit withBit withoutBit referencesFrom colour greyWhite greyAll isAllocated headLegal doomedWhite standing standingOf holderRefusal targetRefusal numbersFit lengthsFit fits isBlockOrNone positionLegal legal entry wordRefusal holderPlace targetPlace unless step metBlock metWord begun marked allSound turned advance reclaimed whitened passed act unit run freeList formatted readRefusal readAnswer read barrier putNumber putReference storeNumber storeRefusal storeReference unitsDue firstFits listRefusal newColour taken held takeRefusal allocated allocate countRefusal work does session lastOf followed follow withRow onward exportFrom export
+unfolding the-machine followed follow withRow onward exportFrom export
 computed =
     record {
       listed =
@@ -190,7 +185,7 @@ record Spared : Type 0 where
   left : Leaves refused night 2 1
 
 spared : Spared
-unfolding _▷_ isBlock eightWords withEight bit withBit withoutBit referencesFrom colour greyWhite greyAll isAllocated headLegal doomedWhite standing standingOf holderRefusal targetRefusal numbersFit lengthsFit fits isBlockOrNone positionLegal legal entry wordRefusal holderPlace targetPlace unless step metBlock metWord begun marked allSound turned advance reclaimed whitened passed act unit run freeList formatted format readRefusal readAnswer read barrier putNumber putReference storeNumber storeRefusal storeReference rootRefusal setRoot unitsDue firstFits listRefusal newColour taken held takeRefusal allocated allocate countRefusal work does session refusals plan
+unfolding the-machine refusals plan
 spared =
     let four = take-clear 4 (λ z. absurd (omega arith)) in
     let five = take-clear 5 (λ z. absurd (omega arith)) in

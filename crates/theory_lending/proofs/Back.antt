@@ -41,8 +41,13 @@ use Rattle.theory_lending.proofs.Locals.{up, at-place}
 abbrev pub tmp : ℕ → ℕ → ℕ
 tmp k j = suc (suc (suc (suc (suc (up k j)))))
 
+abbrev word : ℕ → Vals → Vals
+word n vs = vcons (vint w32 n) vs
+
 abbrev cells : Regs → Vals
-cells r = vcons (vint w32 (r .blocks)) (vcons (vint w32 (r .pace)) (vcons (vint w32 (r .phase)) (vcons (vint w32 (r .grey)) (vcons (vint w32 (r .free)) (vcons (vint w32 (r .count)) (vcons (vint w32 (r .position)) (vcons (vint w32 (r .root)) (vcons (vint w32 (r .cycle)) vnil))))))))
+cells r =
+    word (r .blocks) (word (r .pace) (word (r .phase) (word (r .grey) (word (r .free) (word (r .count) (word (r .position)
+    (word (r .root) (word (r .cycle) vnil))))))))
 
 abbrev pub the-record : Regs → Val
 the-record = LL.val R.the-type R′.the-laws
@@ -95,12 +100,15 @@ taken (f ∷ fs) s r = taken fs s (f .put (f .get s) r)
 -- ---- what is written back
 module _ {M : Type 1} {𝓤 : URA M} where
   abbrev pub Three : (l m b o : ℕ) → Regs → Outcome → List (Item 𝓤) → List (Item 𝓤)
-  Three l m b o r t Δ = ‵ (fat fullShare (rawTy R′.mir) b o (the-record r)) ∷ ‵ (fat fullShare O′.mir m zero (the-outcome t)) ∷ ‵ (fat fullShare record-ref l zero (vptr b o)) ∷ Δ
+  Three l m b o r t Δ =
+      ‵ (fat fullShare (rawTy R′.mir) b o (the-record r)) ∷ ‵ (fat fullShare O′.mir m zero (the-outcome t))
+      ∷ ‵ (fat fullShare record-ref l zero (vptr b o)) ∷ Δ
 
 pub record Back (k : ℕ) : Type 2 where
   pub code : Body → Body
   pub Kept : Regs → Regs → Type 0
-  pub writes : {M : Type 1} {𝓤 : URA M} {H : Heap 𝓤} {A : Atoms 𝓤} {K : Type 0} {W : Given 𝓤 H A} → K → {C : Calls 𝓤 H} {Λ : Loops 𝓤 H} {E : Env 𝓤 H} {q : Post 𝓤 H} {rest : Body} {Δ : List (Item 𝓤)} {l m b o : ℕ} {r : Regs} {t : Outcome} {w : Val}
+  pub writes : {M : Type 1} {𝓤 : URA M} {H : Heap 𝓤} {A : Atoms 𝓤} {K : Type 0} {W : Given 𝓤 H A} → K → {C : Calls 𝓤 H} {Λ : Loops 𝓤 H}
+      {E : Env 𝓤 H} {q : Post 𝓤 H} {rest : Body} {Δ : List (Item 𝓤)} {l m b o : ℕ} {r : Regs} {t : Outcome} {w : Val}
       → getD E 1 (noLocal 𝓤 H) ≡ (record-ref, l) → getD E (tmp k 0) (noLocal 𝓤 H) ≡ (O′.mir, m) → Is O.the-row t (w ∷ []) → Kept r (t .regs)
       → Seq K W (Three l m b o (t .regs) t Δ) (runs C Λ E rest q) → Seq K W (Three l m b o r t Δ) (runs C Λ E (code rest) q)
 
@@ -110,23 +118,33 @@ module _ (k : ℕ) where
 
   abbrev pub fields-code : List Register → Body → Body
   fields-code [] rest = rest
-  fields-code (f ∷ fs) rest = seq (assign (place 1 (deref R′.mir ∷ field (f .index) ∷ [])) (rvOpd (copy (place (tmp k 0) (field 0 ∷ field (f .index) ∷ []))))) (fields-code fs rest)
+  fields-code (f ∷ fs) rest =
+      seq (assign (place 1 (deref R′.mir ∷ field (f .index) ∷ [])) (rvOpd (copy (place (tmp k 0) (field 0 ∷ field (f .index) ∷ [])))))
+      (fields-code fs rest)
 
-  module _ {M : Type 1} {𝓤 : URA M} {H : Heap 𝓤} {A : Atoms 𝓤} {K : Type 0} {W : Given 𝓤 H A} {C : Calls 𝓤 H} {Λ : Loops 𝓤 H} {E : Env 𝓤 H} {q : Post 𝓤 H} {rest : Body} {Δ : List (Item 𝓤)} {l m b o : ℕ} {t : Outcome} {w : Val}
+  module _ {M : Type 1} {𝓤 : URA M} {H : Heap 𝓤} {A : Atoms 𝓤} {K : Type 0} {W : Given 𝓤 H A} {C : Calls 𝓤 H} {Λ : Loops 𝓤 H} {E : Env 𝓤 H}
+      {q : Post 𝓤 H} {rest : Body} {Δ : List (Item 𝓤)} {l m b o : ℕ} {t : Outcome} {w : Val}
       (at-record : getD E 1 (noLocal 𝓤 H) ≡ (record-ref, l)) (at-outcome : getD E (tmp k 0) (noLocal 𝓤 H) ≡ (O′.mir, m)) (is : Is O.the-row t (w ∷ [])) where
     pub writes-whole : K → {r : Regs} → Seq K W (Three l m b o (t .regs) t Δ) (runs C Λ E rest q) → Seq K W (Three l m b o r t Δ) (runs C Λ E (whole-code rest) q)
     writes-whole e h =
-        assigns e (of-opd e (load e (at-place e at-outcome (fld e refl (stop e))) (look-in e 1 (sub e 0 refl (whole e))))) (at-place e at-record (hop e (look e 2 refl) (stop e)))
+        assigns e (of-opd e (load e (at-place e at-outcome (fld e refl (stop e))) (look-in e 1 (sub e 0 refl (whole e)))))
+        (at-place e at-record (hop e (look e 2 refl) (stop e)))
         (store-raw e 0 refl (LL.lawful R.the-type R′.the-laws 𝓤 H A W .typed (t .regs) _ (LL.owed O.the-type O′.the-laws t _ is .0) .0)) $ h
 
-    writes-fields : K → (fs : List Register) {r : Regs} → Seq K W (Three l m b o (taken fs (t .regs) r) t Δ) (runs C Λ E rest q) → Seq K W (Three l m b o r t Δ) (runs C Λ E (fields-code fs rest) q)
+    writes-fields : K → (fs : List Register) {r : Regs} → Seq K W (Three l m b o (taken fs (t .regs) r) t Δ) (runs C Λ E rest q)
+        → Seq K W (Three l m b o r t Δ) (runs C Λ E (fields-code fs rest) q)
     writes-fields e [] h = h
     writes-fields e (f ∷ fs) {r} h =
-        assigns e (of-opd e (load e (at-place e at-outcome (fld e refl (fld e (f .place) (stop e)))) (look-in e 1 (sub e (f .index) (f .place) (sub e 0 refl (whole e)))))) (at-place e at-record (hop e (look e 2 refl) (fld e (f .place) (stop e))))
-        (store-in e 0 (sub e (f .index) (f .place) (whole e)) (subst (λ (u : Val). T (hasTy (tyInt w32) u) × WT u) (sym (f .has (t .regs))) (tt, record { fits = f .small (t .regs) (LL.owed O.the-type O′.the-laws t _ is .0) }))) $
-        rewrite e 0 (λ (vs : Vals). ‵ (fat fullShare (rawTy R′.mir) b o (vstruct vs))) (ap (setV (cells r) (f .index)) (f .has (t .regs)) ∙ f .sets (f .get (t .regs)) r) refl $ writes-fields e fs h
+        let small = f .small (t .regs) (LL.owed O.the-type O′.the-laws t _ is .0) in
+        assigns e (of-opd e (load e (at-place e at-outcome (fld e refl (fld e (f .place) (stop e)))) (look-in e 1 (sub e (f .index) (f .place) (sub e 0 refl (whole e))))))
+        (at-place e at-record (hop e (look e 2 refl) (fld e (f .place) (stop e))))
+        (store-in e 0 (sub e (f .index) (f .place) (whole e))
+        (subst (λ (u : Val). T (hasTy (tyInt w32) u) × WT u) (sym (f .has (t .regs))) (tt, record { fits = small }))) $
+        rewrite e 0 (λ (vs : Vals). ‵ (fat fullShare (rawTy R′.mir) b o (vstruct vs)))
+        (ap (setV (cells r) (f .index)) (f .has (t .regs)) ∙ f .sets (f .get (t .regs)) r) refl $ writes-fields e fs h
 
-    pub writes-only : K → (fs : List Register) {r : Regs} → taken fs (t .regs) r ≡ t .regs → Seq K W (Three l m b o (t .regs) t Δ) (runs C Λ E rest q) → Seq K W (Three l m b o r t Δ) (runs C Λ E (fields-code fs rest) q)
+    pub writes-only : K → (fs : List Register) {r : Regs} → taken fs (t .regs) r ≡ t .regs → Seq K W (Three l m b o (t .regs) t Δ) (runs C Λ E rest q)
+        → Seq K W (Three l m b o r t Δ) (runs C Λ E (fields-code fs rest) q)
     writes-only e fs kept h = writes-fields e fs (rewrite e 0 (λ (s : Regs). ‵ (fat fullShare (rawTy R′.mir) b o (the-record s))) kept refl $ h)
 
 abbrev pub all : (k : ℕ) → Back k

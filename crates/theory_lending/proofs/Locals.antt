@@ -57,14 +57,18 @@ module _ {M : Type 1} {𝓤 : URA M} where
   Cells (suc k) bs m = (‵ (fat fullShare (tyInt w32) (bs .0) zero (vint w32 (m .0))) ⊛ ‵ (fdies (tyInt w32) (bs .0))) ⊛ Cells k (bs .1) (m .1)
 
 module _ {M : Type 1} {𝓤 : URA M} {H : Heap 𝓤} {A : Atoms 𝓤} {K : Type 0} {W : Given 𝓤 H A} where
-  pub allocs-nums : K → (k : ℕ) {ls : List Local} {Kt : Env 𝓤 H → Goal 𝓤 H} {Γ : List (Item 𝓤)} → ((bs : Blocks k) → Seq K W (Rooms k bs ∷ Γ) (allocs ls (λ E. Kt (env k bs E)))) → Seq K W Γ (allocs (withNums k ls) Kt)
+  pub allocs-nums : K → (k : ℕ) {ls : List Local} {Kt : Env 𝓤 H → Goal 𝓤 H} {Γ : List (Item 𝓤)}
+      → ((bs : Blocks k) → Seq K W (Rooms k bs ∷ Γ) (allocs ls (λ E. Kt (env k bs E)))) → Seq K W Γ (allocs (withNums k ls) Kt)
   allocs-nums t zero h = nothing t $ h tt
   allocs-nums t (suc k) h = alloc1 t (λ b. allocs-nums t k (λ bs. move t (1 ∷ 2 ∷ []) $ join t $ join t $ h (b, bs)))
 
-  pub passes-nums : K → (n : ℕ) (κs : Lfts n) (k : ℕ) (bs : Blocks k) (a : N.Args n κs k) → Small k (read n κs k a) → (E : Env 𝓤 H) {g : Goal 𝓤 H} {Γ : List (Item 𝓤)} → Seq K W (Cells k bs (read n κs k a) ∷ Γ) g
+  pub passes-nums : K → (n : ℕ) (κs : Lfts n) (k : ℕ) (bs : Blocks k) (a : N.Args n κs k) → Small k (read n κs k a)
+      → (E : Env 𝓤 H) {g : Goal 𝓤 H} {Γ : List (Item 𝓤)} → Seq K W (Cells k bs (read n κs k a) ∷ Γ) g
       → Seq K W (Rooms k bs ∷ Γ) (passes (env k bs E) (ints n κs k a) g)
   passes-nums t n κs zero bs a s E h = pass0 t $ h
-  passes-nums t n κs (suc k) bs a s E h = split t $ split t $ pass1 t (init t 0 refl (tt, record { fits = s .0 })) $ move t (2 ∷ []) $ passes-nums t n κs k (bs .1) (a .1) (s .1) E (move t (1 ∷ 2 ∷ []) $ join t $ join t $ h)
+  passes-nums t n κs (suc k) bs a s E h =
+      split t $ split t $ pass1 t (init t 0 refl (tt, record { fits = s .0 })) $ move t (2 ∷ []) $
+      passes-nums t n κs k (bs .1) (a .1) (s .1) E (move t (1 ∷ 2 ∷ []) $ join t $ join t $ h)
 
   pub frees-nums : K → (k : ℕ) (bs : Blocks k) (m : Nums k) {E : Env 𝓤 H} {g : Goal 𝓤 H} {Γ : List (Item 𝓤)} → Seq K W Γ (frees E g) → Seq K W (Cells k bs m ∷ Γ) (frees (env k bs E) g)
   frees-nums t zero bs m h = drop t $ h
@@ -77,7 +81,8 @@ past (suc k) bs E j d = past k (bs .1) E j d
 
 module _ {M : Type 1} {𝓤 : URA M} {H : Heap 𝓤} {A : Atoms 𝓤} {K : Type 0} {W : Given 𝓤 H A} {Γ : List (Item 𝓤)} {E : Env 𝓤 H} where
   pub at-place : K → {i : ℕ} {st : List PStep} {p : Ty × ℕ} {sp : Spot 𝓤 H} → getD E i (noLocal 𝓤 H) ≡ p → Walks K W Γ E (p .0, p .1, zero) st sp → Finds K W Γ E (place i st) sp
-  at-place t {st = st} e w = record { go = λ Kt h. subst (λ (q : Ty × ℕ). ent 𝓤 (⋆ 𝓤 H A Γ) (walk 𝓤 H E (q .0, q .1, zero) st Kt)) (sym e) (w .go Kt h) }
+  at-place t {st = st} e w =
+      record { go = λ Kt h. subst (λ (q : Ty × ℕ). ent 𝓤 (⋆ 𝓤 H A Γ) (walk 𝓤 H E (q .0, q .1, zero) st Kt)) (sym e) (w .go Kt h) }
 
   -- what is read from an entry of the context may be read from what the entry is made of
   reads-from : {Δ : List (Item 𝓤)} {xs : List Operand} {vs : List Val} → ent 𝓤 (⋆ 𝓤 H A Γ) (⋆ 𝓤 H A Δ) → ent 𝓤 (⋆ 𝓤 H A Δ) (⋆ 𝓤 H A Γ) → Opds K W Δ E xs vs → Opds K W Γ E xs vs
@@ -102,17 +107,20 @@ module _ {M : Type 1} (𝓤 : URA M) (H : Heap 𝓤) where
   has-after (e ∷ D) k bs E = has-under e (D ++ env k bs E) (length D) k bs (has-after D k bs E)
 
 module _ {M : Type 1} {𝓤 : URA M} {H : Heap 𝓤} {A : Atoms 𝓤} {K : Type 0} {W : Given 𝓤 H A} {E : Env 𝓤 H} where
-  reads-first : K → (n : ℕ) (κs : Lfts n) (k i : ℕ) (bs : Blocks k) (m : Nums k) → Has 𝓤 H E i k bs → (Γ : List (Item 𝓤)) → Opds K W (Cells k bs m ∷ Γ) E (opds i k) (ints n κs k (write n κs k m))
+  reads-first : K → (n : ℕ) (κs : Lfts n) (k i : ℕ) (bs : Blocks k) (m : Nums k) → Has 𝓤 H E i k bs → (Γ : List (Item 𝓤))
+      → Opds K W (Cells k bs m ∷ Γ) E (opds i k) (ints n κs k (write n κs k m))
   reads-first t n κs zero i bs m h Γ = no-more t
   reads-first t n κs (suc k) i bs m h Γ =
       let cell : Item 𝓤 = ‵ (fat fullShare (tyInt w32) (bs .0) zero (vint w32 (m .0))) in
       let dies : Item 𝓤 = ‵ (fdies (tyInt w32) (bs .0)) in
       let rest : Item 𝓤 = Cells k (bs .1) (m .1) in
-      reads-from {Δ = rest ∷ cell ∷ dies ∷ Γ} (qed W (((cell ⊛ dies) ⊛ rest) ∷ Γ) ∵ split ! $ split ! $ move ! (2 ∷ []) $ done !) (qed W (rest ∷ cell ∷ dies ∷ Γ) ∵ move ! (1 ∷ 2 ∷ []) $ join ! $ join ! $ done !)
+      reads-from {Δ = rest ∷ cell ∷ dies ∷ Γ} (qed W (((cell ⊛ dies) ⊛ rest) ∷ Γ) ∵ split ! $ split ! $ move ! (2 ∷ []) $ done !)
+      (qed W (rest ∷ cell ∷ dies ∷ Γ) ∵ move ! (1 ∷ 2 ∷ []) $ join ! $ join ! $ done !)
       (and-then t (load t (at-place t (h .0) (stop t)) (look t 1 refl)) (reads-first t n κs k (suc i) (bs .1) (m .1) (h .1) (cell ∷ dies ∷ Γ)))
 
   -- entry j of the context has their cells
-  pub reads-nums : K → {Γ : List (Item 𝓤)} (j : ℕ) (n : ℕ) (κs : Lfts n) (k i : ℕ) (bs : Blocks k) (m : Nums k) → nth 𝓤 H A j Γ ≡ Cells k bs m → Has 𝓤 H E i k bs → Opds K W Γ E (opds i k) (ints n κs k (write n κs k m))
+  pub reads-nums : K → {Γ : List (Item 𝓤)} (j : ℕ) (n : ℕ) (κs : Lfts n) (k i : ℕ) (bs : Blocks k) (m : Nums k)
+      → nth 𝓤 H A j Γ ≡ Cells k bs m → Has 𝓤 H E i k bs → Opds K W Γ E (opds i k) (ints n κs k (write n κs k m))
   reads-nums t {Γ} j n κs k i bs m e h =
       let c : Item 𝓤 = Cells k bs m in
       let rest : List (Item 𝓤) = del 𝓤 H A j Γ in

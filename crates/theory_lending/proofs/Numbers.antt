@@ -96,8 +96,13 @@ module _ (n : ℕ) where
     module _ {M : Type 1} (𝓤 : URA M) (H : Heap 𝓤) (A : Atoms 𝓤) (W : Given 𝓤 H A) where
       pub makes : (k : ℕ) (m : Nums k) → Small k m → ent 𝓤 (emp 𝓤) (sem 𝓤 H A (owns (typesAt (slots k) κs) (write k m) (vals k (write k m))))
       makes zero m s = id⊢ 𝓤 (emp 𝓤)
-      makes (suc k) m s = qed W [] ∵ use0 W (‵ (owns (typesAt (slots k) κs) (write k (m .1)) (vals k (write k (m .1))))) (makes k (m .1) (s .1)) $ owned ! u32 (Is u32) (uint-makes 𝓤 H A W w32) (m .0) _ (refl, s .0) $ fjoin ! $ done !
+      makes (suc k) m s =
+          qed W [] ∵ use0 W (‵ (owns (typesAt (slots k) κs) (write k (m .1)) (vals k (write k (m .1))))) (makes k (m .1) (s .1)) $
+          owned ! u32 (Is u32) (uint-makes 𝓤 H A W w32) (m .0) _ (refl, s .0) $ fjoin ! $ done !
 
       pub had : (k : ℕ) (a : Args k) → Small k (read k a) → ent 𝓤 (emp 𝓤) (sem 𝓤 H A (hasOf κs (slots k) (all yes (slots k)) (stays k) a (lasts k a) (vals k a)))
       had zero a s = id⊢ 𝓤 (emp 𝓤)
-      had (suc k) a s = qed W [] ∵ use0 W (‵ (hasOf κs (slots k) (all yes (slots k)) (stays k) (a .1) (lasts k (a .1)) (vals k (a .1)))) (had k (a .1) (s .1)) $ owned ! u32 (Is u32) (uint-makes 𝓤 H A W w32) (a .0) _ (refl, s .0) $ fjoin ! $ done !
+      had (suc k) a s =
+          qed W [] ∵
+          use0 W (‵ (hasOf κs (slots k) (all yes (slots k)) (stays k) (a .1) (lasts k (a .1)) (vals k (a .1)))) (had k (a .1) (s .1)) $
+          owned ! u32 (Is u32) (uint-makes 𝓤 H A W w32) (a .0) _ (refl, s .0) $ fjoin ! $ done !

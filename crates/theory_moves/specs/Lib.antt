@@ -1,18 +1,8 @@
--- The abstract collector. Read in this order.
+-- The abstract collector: its heap, its moves, and what is promised of it. Read in this order.
 pub mod Tints
 pub mod Heaps
 pub mod Moves
 pub mod Kinds
-pub mod Mutating
-pub mod Soundness
-pub mod Safety
 pub mod Runs
-pub mod Working
-pub mod Acting
-pub mod Garbage
-pub mod Around
-pub mod Bounds
-pub mod Taking
-pub mod Ledger
-pub mod Room
-pub mod Instances
+pub mod Demand2
+pub mod Demand3

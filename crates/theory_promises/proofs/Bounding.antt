@@ -17,7 +17,9 @@ use Rattle.machine.specs.Session.{Call}
 use Rattle.machine.proofs.Blocks.{block-isBlock}
 use Rattle.theory_reach.specs.Sums.{total}
 use Rattle.theory_moves.specs.Heaps.{span}
-use Rattle.theory_moves.specs.Bounds.{stands, allocated, all-blocks, cycle-most, cycle-exact}
+use Rattle.theory_moves.specs.Moves.{Begin}
+use Rattle.theory_moves.specs.Demand3.{stands, allocated}
+use Rattle.theory_moves.proofs.Bounds as bounds
 use Rattle.theory_promises.specs.View.{tintOf, view}
 use Rattle.theory_promises.specs.Deeds.{Deed, aUnit, deed, AllAllowed, after}
 use Rattle.theory_promises.specs.Sessions.{NoReset, sessionDeeds, NoBegin, unitsIn, marksIn}
@@ -42,19 +44,24 @@ allocated-count h =
     (λ c l. colour-stands (colourOf h c) ∙ ap one (sym (ap (λ (t : Bool). t && allocatedColour (colourOf h c)) (block-isBlock (h .regs .blocks) c (record { low = omega arith; high = omega arith })))))
 
 counted : (h : Heap) → WellFormed h → allocatedBlocks h + h .regs .count ≡ h .regs .blocks
-counted h f = omega (arith, allocated-count h, free-count h (wf-shape h f), all-blocks (h .regs .blocks) (view h))
+counted h f = omega (arith, allocated-count h, free-count h (wf-shape h f), bounds.cycle-short .counted (h .regs .blocks) (view h))
 
 module _ (h : Heap) (f : WellFormed h) (ys : List Deed) (a : AllAllowed ys (deed aUnit h)) (i : h .regs .phase ≡ idle) (n : NoBegin ys (deed aUnit h)) where
+  begins : Begin (h .regs .blocks) (view h) (view (deed aUnit h))
+  unfolding deed
+  begins = unit-begins h (wf-shape h f) (wf-sound h f) i
+
   run-of : Ran (h .regs .blocks) (deed aUnit h) ys
   run-of = let v = deed-run h (wf-shape h f) (wf-sound h f) aUnit tt in deeds-run (h .regs .blocks) ys (deed aUnit h) (v .blocks) (deed-formed h f aUnit tt) a
 
   units-most : unitsIn (aUnit ∷ ys) ≤ allocatedBlocks h + h .regs .blocks + 2
-  unfolding deed
-  units-most = omega (arith, allocated-count h, run-of .units, cycle-most (wf-sound h f) (unit-begins h (wf-shape h f) (wf-sound h f) i) (run-of .run) (run-of .begins n))
+  units-most =
+      omega (arith, allocated-count h, run-of .units, bounds.cycle-short .most (wf-sound h f) begins (run-of .run) (run-of .begins n))
 
   units-exact : after ys (deed aUnit h) .regs .phase ≡ idle → unitsIn (aUnit ∷ ys) ≡ 2 + marksIn ys (deed aUnit h) + h .regs .blocks
-  unfolding deed span
-  units-exact z = omega (arith, run-of .units, run-of .marks, cycle-exact (unit-begins h (wf-shape h f) (wf-sound h f) i) (run-of .run) (run-of .begins n) z)
+  unfolding span
+  units-exact z =
+      omega (arith, run-of .units, run-of .marks, bounds.cycle-short .exact begins (run-of .run) (run-of .begins n) z)
 
 -- the place of a cycle in a session
 record Cut (h : Heap) (xs ys : List Deed) : Type 0 where

@@ -12,7 +12,7 @@ use lib.ListN.{replicate}
 use Rattle.machine.specs.Heap.{Heap}
 use Rattle.machine.specs.WellFormed.{Names, WellFormed}
 use Rattle.machine.specs.Session.{Call, does, session}
-use Rattle.theory_moves.specs.Working.{work-root}
+use Rattle.theory_moves.proofs.Working.{work-root}
 use Rattle.theory_promises.specs.Reachable.{Reachable, isRoot, isNamed, SameWord}
 use Rattle.theory_promises.specs.Deeds.{Act, acted, RootSet, aUnit, anAct, deed, AllAllowed, after}
 use Rattle.theory_promises.specs.Plans.{plan, worked, Resets}

@@ -8,8 +8,9 @@ use mathlib.Core.List.{List, _∷_, _++_}
 use Rattle.machine.specs.Registers.{idle}
 use Rattle.machine.specs.Heap.{Heap}
 use Rattle.machine.specs.WellFormed.{Block, WellFormed}
-use Rattle.theory_moves.specs.Garbage as garbage
+use Rattle.theory_moves.proofs.Garbage as garbage
 use Rattle.theory_promises.specs.Reachable.{Reachable, IsFree}
+use Rattle.theory_promises.specs.View.{view}
 use Rattle.theory_promises.specs.Deeds.{Deed, aUnit, deed, AllAllowed, after}
 use Rattle.theory_promises.specs.Sessions.{Proper, NoBegin, FreedBy, later}
 use Rattle.theory_promises.specs.Demand2.{GarbageGoes}
@@ -24,13 +25,12 @@ pub cycle-collects : (h : Heap) → WellFormed h → (ys : List Deed) → AllAll
     → (g : ℕ) → Block (h .regs .blocks) g → (IsFree h g → ⊥) → (Reachable h g → ⊥) → FreedBy g (aUnit ∷ ys) h
 unfolding deed
 cycle-collects h f ys a i n z p g l k r =
-    let v = deed-run h (wf-shape h f) (wf-sound h f) aUnit tt in
+    let s = wf-sound h f in
+    let v = deed-run h (wf-shape h f) s aUnit tt in
     let q = deeds-run (h .regs .blocks) ys (deed aUnit h) (v .blocks) (deed-formed h f aUnit tt) a in
-    later aUnit
-    (q .freed g (there l)
-    (freed-at
-    (garbage.garbage-goes (wf-sound h f) (unit-begins h (wf-shape h f) (wf-sound h f) i) (there l)
-    (λ e. k (view-free (wf-shape h f) l e)) (λ e. r (view-reachable e)) (q .run) (q .begins n) (q .proper p) z)))
+    let c = garbage.garbage-goes (h .regs .blocks) g (view h) (view (deed aUnit h)) (view (after ys (deed aUnit h))) in
+    let d = c s (unit-begins h (wf-shape h f) s i) (there l) (λ e. k (view-free (wf-shape h f) l e)) (λ e. r (view-reachable e)) in
+    later aUnit (q .freed g (there l) (freed-at (d (q .run) (q .begins n) (q .proper p) z)))
 
 pub garbage-goes : GarbageGoes
 garbage-goes h f cs n xs ys zs e i b z p g l k r =

@@ -17,10 +17,11 @@ use Rattle.machine.specs.WellFormed.{Block, Coloured}
 use Rattle.machine.proofs.Tests.{by-test, clash}
 use Rattle.theory_audit.proofs.Frees.{nextFree, free-tests}
 use Rattle.theory_audit.proofs.Exact.{exact-length}
-use Rattle.theory_reach.specs.Sums.{sum, Within, total, total-down, total-ones}
+use Rattle.theory_reach.specs.Sums.{sum, Within, total}
+use Rattle.theory_reach.proofs.Sums.{total-down, total-ones}
 use Rattle.theory_moves.specs.Tints.{Tint}
+use Rattle.theory_moves.specs.Demand3.{lies, unused}
 use Rattle.theory_moves.specs.Tints as tints
-use Rattle.theory_moves.specs.Bounds.{lies, unused}
 use Rattle.theory_promises.specs.View.{tintOf, view, Shape}
 use Rattle.theory_promises.proofs.Viewing.{there}
 use Rattle.theory_promises.proofs.Recolouring.{free-of, of-free}

@@ -16,10 +16,11 @@ use Rattle.machine.specs.Heap.{Heap}
 use Rattle.machine.specs.WellFormed.{WellFormed}
 use Rattle.machine.specs.Session.{Call, does, session}
 use Rattle.machine.proofs.Tests.{by-test, clash}
+use Rattle.theory_moves.specs.Runs.{Run, rest, joined, units, begins, marks, ProperRun}
+use Rattle.theory_moves.proofs.Runs.{joined-units, joined-begins, joined-marks, joined-proper}
+use Rattle.theory_moves.proofs.Acting.{joined-taken}
 use Rattle.theory_reach.specs.Sums as sums
-use Rattle.theory_moves.specs.Runs.{Run, rest, joined, units, begins, marks, ProperRun, joined-units, joined-begins, joined-marks, joined-proper}
 use Rattle.theory_moves.specs.Runs as runs
-use Rattle.theory_moves.specs.Acting.{joined-taken}
 use Rattle.theory_promises.specs.View.{view}
 use Rattle.theory_promises.specs.Deeds.{Deed, deed, AllAllowed, takesIn, after}
 use Rattle.theory_promises.specs.Plans.{plan, deeds}

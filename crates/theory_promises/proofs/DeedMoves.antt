@@ -24,16 +24,18 @@ use Rattle.machine.specs.WellFormed.{Block, WellFormed}
 use Rattle.machine.proofs.Tests.{by-eq, if-ind}
 use Rattle.machine.proofs.Allocating.{holder-zero}
 use Rattle.machine.proofs.Storing.{barrier-grey}
-use Rattle.theory_reach.specs.Sums as sums
-use Rattle.theory_moves.specs.Tints as tints
 use Rattle.theory_moves.specs.Heaps.{Abs, Reached, Live, Sound}
 use Rattle.theory_moves.specs.Moves.{Move}
+use Rattle.theory_moves.specs.Kinds.{begun}
+use Rattle.theory_moves.specs.Runs.{Run, rest, step, joined, units, marks, begins, ProperRun, FreedIn, freed-now, freed-later, WritesIn}
+use Rattle.theory_moves.proofs.ByKind.{begins?, unit-none}
+use Rattle.theory_moves.proofs.Runs.{run-sound}
+use Rattle.theory_moves.proofs.Acting.{act-kept, acts-begin, acts-mark}
+use Rattle.theory_reach.specs.Sums as sums
+use Rattle.theory_moves.specs.Tints as tints
 use Rattle.theory_moves.specs.Moves.Move.{writeNumber, writeRef, setRoot, takeHeld, takeRoot}
-use Rattle.theory_moves.specs.Kinds.{begun, begins?, unit-none}
 use Rattle.theory_moves.specs.Kinds as kinds
-use Rattle.theory_moves.specs.Runs.{Run, rest, step, joined, units, marks, begins, ProperRun, FreedIn, freed-now, freed-later, run-sound}
 use Rattle.theory_moves.specs.Runs as runs
-use Rattle.theory_moves.specs.Acting.{WritesIn, act-kept, acts-begin, acts-mark}
 use Rattle.theory_promises.specs.View.{view, Shape}
 use Rattle.theory_promises.specs.Deeds.{Act, aNumber, aReference, aRoot, aTake, acted, Allows, target, takes, Writes, SetsRoot, Deed, aUnit, anAct, deed, Allowed, costs, names, takings}
 use Rattle.theory_promises.specs.Sessions.{Begins, marking?, FreedBy, now}

@@ -24,13 +24,14 @@ use Rattle.machine.specs.Format.{freeList, formatted}
 use Rattle.machine.specs.WellFormed.{Block, Listed, ends, goes, WellFormed}
 use Rattle.machine.specs.Ready.{Ready}
 use Rattle.machine.proofs.Tests.{by-eq, by-test}
-use Rattle.machine.proofs.Bytes.{below-eight}
+use Rattle.machine.proofs.Bytes.{free-rest}
 use Rattle.machine.proofs.Colours.{is-free}
 use Rattle.machine.proofs.Kept.{head-one}
 use Rattle.machine.proofs.Steps.{never}
+use Rattle.theory_moves.specs.Heaps.{Sound}
+use Rattle.theory_moves.proofs.Heaps.{fresh-sound}
 use Rattle.theory_reach.specs.Sums as sums
 use Rattle.theory_moves.specs.Tints as tints
-use Rattle.theory_moves.specs.Heaps.{Sound, fresh-sound}
 use Rattle.theory_promises.specs.View.{tintOf, view, Shape}
 use Rattle.theory_promises.proofs.Viewing.{here, shape-wf}
 
@@ -156,7 +157,7 @@ module _ (m u : ℕ) (some : 1 ≤ m) (most : m ≤ 16384) (pace : u ≤ 65535) 
         };
         laid = λ b f. record {
           byte = byte-none b (f .block);
-          words = λ w o q. word-at b w (f .block) q ∙ below-eight (λ v. 1 ≤ v → getD (freeWords (from (m + 1 - b) (b + 1))) v 0 ≡ 0) (λ i. absurd (omega arith)) (λ i. refl) (λ i. refl) (λ i. refl) (λ i. refl) (λ i. refl) (λ i. refl) (λ i. refl) w (omega arith) o;
+          words = λ w o q. word-at b w (f .block) q ∙ free-rest (from (m + 1 - b) (b + 1)) w o q;
         };
         counted = upTo-length m 2;
       }

@@ -18,29 +18,26 @@ use borrow.Author.Tests.{eqb-true}
 use Rattle.machine.specs.Tests.{_▷_}
 use Rattle.machine.specs.declared.Colour.the-variants.{White, Free}
 use Rattle.machine.specs.Registers.{idle, marking, sweeping}
-use Rattle.machine.specs.Block.{isBlock, eightWords, withEight, bit, withBit, withoutBit, referencesFrom}
-use Rattle.machine.specs.Colouring.{colour, greyWhite, greyAll, freeColour, isAllocated, headLegal}
+use Rattle.machine.specs.Colouring.{freeColour}
 use Rattle.machine.specs.Heap.{Heap, colourOf, referencesOf}
-use Rattle.machine.specs.Standing.{doomedWhite, standing, standingOf, holderRefusal, targetRefusal}
-use Rattle.machine.specs.Entry.{numbersFit, lengthsFit, fits, isBlockOrNone, positionLegal, legal, entry, wordRefusal, holderPlace, targetPlace}
-use Rattle.machine.specs.Answers.{Given, unless}
-use Rattle.machine.specs.OneUnit.{step, metBlock, metWord, begun, marked, allSound, turned, advance, reclaimed, whitened, passed, act, unit}
+use Rattle.machine.specs.Entry.{entry, holderPlace}
+use Rattle.machine.specs.Answers.{Given}
 use Rattle.machine.specs.Units.{run}
-use Rattle.machine.specs.Format.{freeList, formatted}
-use Rattle.machine.specs.Store.{barrier, putReference, storeRefusal, storeReference}
-use Rattle.machine.specs.Allocate.{unitsDue, firstFits, listRefusal, newColour, taken, held, takeRefusal, allocated, allocate}
-use Rattle.machine.specs.Work.{countRefusal, work}
-use Rattle.machine.specs.Session.{does, session, lastOf}
+use Rattle.machine.specs.Format.{formatted}
+use Rattle.machine.specs.Allocate.{unitsDue, takeRefusal}
+use Rattle.machine.specs.Session.{does, session}
 use Rattle.machine.specs.Session.Call.{Allocate, Work}
 use Rattle.machine.specs.WellFormed.{Block}
 use Rattle.machine.proofs.Tests.{both-true, either-true, if-ind, clash}
+use Rattle.machine.proofs.Computing.{the-machine}
 use Rattle.theory_audit.proofs.Words.{names-member}
 use Rattle.theory_promises.specs.Reachable.{Reachable, isRoot, isNamed, IsFree}
 use Rattle.theory_promises.specs.Deeds.{Act, acted, Deed, aUnit, anAct, deed, after}
 use Rattle.theory_promises.specs.Plans.{plan, deeds, asks}
 use Rattle.theory_promises.specs.Sessions.{NoReset, sessionDeeds, Proper, NoBegin, FreedBy, now, later}
 use Rattle.theory_promises.specs.Demand3.{cycles, Good, Premises, Asking}
-use Rattle.theory_promises.specs.Instances.{fresh, leaving, before, left, plain, Freed, Survives, HandArithmetic, within, allWithin, namesWithin, closes, pair, goesOn, works, churn, byTurns, rooted, long, Roomy}
+use Rattle.theory_promises.specs.Instances.{fresh, leaving, before, left, plain, Freed, Survives, HandArithmetic, within, allWithin}
+use Rattle.theory_promises.specs.Instances.{namesWithin, closes, pair, goesOn, works, churn, byTurns, rooted, long, Roomy}
 use Rattle.theory_promises.proofs.FreshHeap.{fresh-formed}
 use Rattle.theory_promises.proofs.Collecting.{garbage-goes}
 use Rattle.theory_promises.proofs.Rooming.{room-for, margin-for}
@@ -157,7 +154,7 @@ three : Block 3 3
 three = record { low = omega arith; high = omega arith }
 
 pub freed : Freed
-unfolding _▷_ isBlock eightWords withEight bit withBit withoutBit referencesFrom colour greyWhite greyAll isAllocated headLegal doomedWhite standing standingOf holderRefusal targetRefusal numbersFit lengthsFit fits isBlockOrNone positionLegal legal entry wordRefusal holderPlace targetPlace unless step metBlock metWord begun marked allSound turned advance reclaimed whitened passed act unit run freeList formatted barrier putReference storeRefusal storeReference unitsDue firstFits listRefusal newColour taken held takeRefusal allocated allocate countRefusal work does session lastOf sessionDeeds plan acted deed after within allWithin namesWithin closes
+unfolding the-machine sessionDeeds plan acted deed after within allWithin namesWithin closes
 freed =
     let begun : NoBegin plain (deed aUnit left) = (marks, (marks, (sweeps, (sweeps, (sweeps, tt))))) in
     let proper : Proper plain (deed aUnit left) =
@@ -178,7 +175,7 @@ freed =
     }
 
 pub survives : Survives
-unfolding _▷_ isBlock eightWords withEight bit withBit withoutBit referencesFrom colour greyWhite greyAll isAllocated headLegal doomedWhite standing standingOf holderRefusal targetRefusal numbersFit lengthsFit fits isBlockOrNone positionLegal legal entry wordRefusal holderPlace targetPlace unless step metBlock metWord begun marked allSound turned advance reclaimed whitened passed act unit run freeList formatted barrier putReference storeRefusal storeReference unitsDue firstFits listRefusal newColour taken held takeRefusal allocated allocate countRefusal work does session lastOf sessionDeeds plan acted deed after within allWithin namesWithin closes neverFree
+unfolding the-machine sessionDeeds plan acted deed after within allWithin namesWithin closes neverFree
 survives =
     record {
       deeds = refl;
@@ -198,7 +195,7 @@ unfolding cycles
 hand-arithmetic = record { many = refl; meets = omega arith; fails = λ l. omega arith; once = refl; small = omega arith }
 
 long-works : works (byTurns rooted) (formatted 20 5) ≡ true
-unfolding _▷_ isBlock eightWords withEight bit withBit withoutBit referencesFrom colour greyWhite greyAll isAllocated headLegal doomedWhite standing standingOf holderRefusal targetRefusal numbersFit lengthsFit fits isBlockOrNone positionLegal legal entry wordRefusal holderPlace targetPlace unless step metBlock metWord begun marked allSound turned advance reclaimed whitened passed act unit run freeList formatted barrier putReference storeRefusal storeReference unitsDue firstFits listRefusal newColour taken held takeRefusal allocated allocate countRefusal work does session lastOf within allWithin namesWithin closes goesOn works
+unfolding the-machine within allWithin namesWithin closes goesOn works
 long-works = refl
 
 long-premises : Premises 20 5 2 long

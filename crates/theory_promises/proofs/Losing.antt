@@ -15,9 +15,10 @@ use Rattle.machine.specs.OneUnit.{unit}
 use Rattle.machine.specs.WellFormed.{WellFormed}
 use Rattle.machine.specs.WellFormed as formed
 use Rattle.machine.specs.Session.{Call, session}
-use Rattle.theory_moves.specs.Heaps.{Live, reached-live}
-use Rattle.theory_moves.specs.Safety.{unit-cells, unit-over, unit-back}
-use Rattle.theory_moves.specs.Acting.{acts-live, acts-cells}
+use Rattle.theory_moves.specs.Heaps.{Live}
+use Rattle.theory_moves.proofs.Heaps.{reached-live}
+use Rattle.theory_moves.proofs.Safety.{unit-cells, unit-over, unit-back}
+use Rattle.theory_moves.proofs.Acting.{acts-live, acts-cells}
 use Rattle.theory_promises.specs.View.{view}
 use Rattle.theory_promises.specs.Reachable.{Reachable, IsFree, SameWord}
 use Rattle.theory_promises.specs.Deeds.{Act, Written, aUnit, anAct, deed, AllAllowed, after}

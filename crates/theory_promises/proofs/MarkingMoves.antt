@@ -6,7 +6,7 @@
 use Prim.Native.Nat.{ℕ}
 use mathlib.Core.Path.{_≡_, refl, sym, _∙_, ap, subst}
 use mathlib.Core.Logic.{_≢_, _↔_}
-use mathlib.Core.List.{List·Memᴰ}
+use mathlib.Core.List.{List, List·Memᴰ}
 use native.Mathlib.Omega.{arith}
 use lib.Dec.{eqb}
 use lib.ListN.{length-set}
@@ -14,7 +14,7 @@ use borrow.Author.Tests.{eq-eqb, ne-eqb}
 use Rattle.machine.specs.declared.Colour.the-variants.{Grey, Black, Free, Outside}
 use Rattle.machine.specs.Tests.{if_then_else_}
 use Rattle.machine.specs.Registers.{idle, marking}
-use Rattle.machine.specs.Colouring.{white, colour, colourWord, toGrey, toBlack, greyWhite, greyAll}
+use Rattle.machine.specs.Colouring.{Colouring, white, colour, colourWord, toGrey, toBlack, greyWhite, greyAll}
 use Rattle.machine.specs.Heap.{Heap, colouring, colourOf, referencesOf}
 use Rattle.machine.specs.WellFormed.{Block}
 use Rattle.machine.specs.OneUnit.{metBlock, metWord, begun, marked, turned}
@@ -24,9 +24,10 @@ use Rattle.machine.proofs.Colours.{not-a-block, was-white, head-block}
 use Rattle.machine.proofs.Steps.{never}
 use Rattle.machine.proofs.Kept.{Kept, head-one, head-elsewhere, next-legal, begun-kept, marked-kept, turned-kept}
 use Rattle.theory_audit.proofs.Words.{names-member, member-names}
-use Rattle.theory_moves.specs.Tints.{Turned, stays-free, was-free, stays-black}
-use Rattle.theory_moves.specs.Tints as tints
+use Rattle.theory_moves.specs.Tints.{Turned}
 use Rattle.theory_moves.specs.Moves.{Begin, Mark, Turn}
+use Rattle.theory_moves.proofs.Tints.{stays-free, was-free, stays-black}
+use Rattle.theory_moves.specs.Tints as tints
 use Rattle.theory_promises.specs.View.{tintOf, view, Shape}
 use Rattle.theory_promises.proofs.Viewing.{here, there, names-ref, ref-names, tinted}
 use Rattle.theory_promises.proofs.Greys.{TintIn, Greying, turned-as, greying-white, greying-all, black-here, black-there, black-list}
@@ -81,19 +82,29 @@ module _ (h : Heap) (p : Shape h) where
     rising : Kept m m (colouring h)
     rising = record { legal = rw (← k) (p .ready .grey); same = p .ready .colours }
 
-    lowered : Kept m m (toBlack (colouring h))
+    -- what the head names; the colours with the head black, and then with those grey
+    abbrev targets : List ℕ
+    targets = referencesOf h (h .regs .grey)
+
+    abbrev blackening : Colouring
+    blackening = toBlack (colouring h)
+
+    abbrev spreads : Colouring
+    spreads = greyAll m targets blackening
+
+    lowered : Kept m m blackening
     lowered = record { legal = next-legal m _ headGrey; same = simp length-set (p .ready .colours) }
 
-    spread : Greying m (λ c. List·Memᴰ c (referencesOf h (h .regs .grey))) (toBlack (colouring h)) (greyAll m (referencesOf h (h .regs .grey)) (toBlack (colouring h)))
-    spread = greying-all m (p .ready .most) (referencesOf h (h .regs .grey)) (toBlack (colouring h)) lowered
+    spread : Greying m (λ c. List·Memᴰ c targets) blackening spreads
+    spread = greying-all m (p .ready .most) targets blackening lowered
 
-    away : (c : ℕ) → Block m c → c ≢ h .regs .grey → TintIn m (toBlack (colouring h) .cells) c ≡ TintIn m (h .colours) c
+    away : (c : ℕ) → Block m c → c ≢ h .regs .grey → TintIn m (blackening .cells) c ≡ TintIn m (h .colours) c
     away c l o = ap tintOf (black-there m (p .ready .most) (colouring h) rising head c l o)
 
-    blackened : TintIn m (toBlack (colouring h) .cells) (h .regs .grey) ≡ tints.Black
+    blackened : TintIn m (blackening .cells) (h .regs .grey) ≡ tints.Black
     blackened = ap tintOf (black-here m (p .ready .most) (colouring h) rising head)
 
-    blackAfter : TintIn m (greyAll m (referencesOf h (h .regs .grey)) (toBlack (colouring h)) .cells) (h .regs .grey) ≡ tints.Black
+    blackAfter : TintIn m (spreads .cells) (h .regs .grey) ≡ tints.Black
     blackAfter = stays-black (spread .tints (h .regs .grey) head) blackened
 
     pub mark-move : Mark m (h .regs .grey) (view h) (view (marked h))
@@ -110,7 +121,7 @@ module _ (h : Heap) (p : Shape h) where
               turned-as
               (λ i. let q = member-names h (h .regs .grey) c i in record { at = q .word; names = names-ref h q })
               (λ q. names-member h (h .regs .grey) c (ref-names h (q .at) (q .names) (λ z. absurd (omega arith))))
-              (subst (λ (t : tints.Tint). Turned (List·Memᴰ c (referencesOf h (h .regs .grey))) t (TintIn m (greyAll m (referencesOf h (h .regs .grey)) (toBlack (colouring h)) .cells) c)) (away c (here l) o) (spread .tints c (here l)));
+              (subst (λ (t : tints.Tint). Turned (List·Memᴰ c targets) t (TintIn m (spreads .cells) c)) (away c (here l) o) (spread .tints c (here l)));
           cells = λ c l. record { words = λ w. refl; bits = λ w. refl };
         }
 
@@ -122,15 +133,18 @@ module _ (h : Heap) (p : Shape h) where
         (λ c l. by-eq c (h .regs .grey) (λ z. at-head c z) (λ o. (λ e. sym (away c l o) ∙ was-free (spread .tints c l) e, λ e. stays-free (spread .tints c l) (away c l o ∙ e))))
         (spread .list (black-list m (p .ready .most) (colouring h) rising head (of-greys h (p .greys))))
       where
-        legal-black : (c : ℕ) → Block m c → colour m (colourWord (toBlack (colouring h) .cells) c) ≢ Outside
+        legal-black : (c : ℕ) → Block m c → colour m (colourWord (blackening .cells) c) ≢ Outside
         legal-black c l =
             by-eq c (h .regs .grey)
-            (λ z q. let e : Black ≡ Outside = sym (black-here m (p .ready .most) (colouring h) rising head) ∙ ap (λ (x : ℕ). colour m (colourWord (toBlack (colouring h) .cells) x)) (sym z) ∙ q in never (cc))
+            (λ z q.
+            let same = ap (λ (x : ℕ). colour m (colourWord (blackening .cells) x)) (sym z) in
+            let e : Black ≡ Outside = sym (black-here m (p .ready .most) (colouring h) rising head) ∙ same ∙ q in
+            never (cc))
             (λ o q. p .colours c l (sym (black-there m (p .ready .most) (colouring h) rising head c l o) ∙ q))
 
-        at-head : (c : ℕ) → c ≡ h .regs .grey → (TintIn m (greyAll m (referencesOf h (h .regs .grey)) (toBlack (colouring h)) .cells) c ≡ tints.Free) ↔ (tintOf (colourOf h c) ≡ tints.Free)
+        at-head : (c : ℕ) → c ≡ h .regs .grey → (TintIn m (spreads .cells) c ≡ tints.Free) ↔ (tintOf (colourOf h c) ≡ tints.Free)
         at-head c z = (
-          λ e. let q : tints.Black ≡ tints.Free = sym blackAfter ∙ ap (λ (x : ℕ). TintIn m (greyAll m (referencesOf h (h .regs .grey)) (toBlack (colouring h)) .cells) x) (sym z) ∙ e in never (cc),
+          λ e. let q : tints.Black ≡ tints.Free = sym blackAfter ∙ ap (λ (x : ℕ). TintIn m (spreads .cells) x) (sym z) ∙ e in never (cc),
           λ e. let q : tints.Grey ≡ tints.Free = sym (ap tintOf headGrey) ∙ ap (λ (x : ℕ). tintOf (colourOf h x)) (sym z) ∙ e in never (cc),
         )
 

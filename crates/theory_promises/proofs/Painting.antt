@@ -14,7 +14,7 @@ use lib.Seq.{getD-set-same, getD-set-other, getD-take, getD-drop, getD-append-ad
 use Rattle.machine.specs.Block.{index, base, place, wordOf, byteOf, withEight}
 use Rattle.machine.specs.Colouring.{colourWord, paint}
 use Rattle.machine.specs.WellFormed.{Block}
-use Rattle.theory_reach.specs.Splits.{by-le}
+use Rattle.theory_reach.proofs.Splits.{by-le}
 
 module _ {m : ℕ} {b : ℕ} (l : Block m b) where
   pub painted : (cs : List ℕ) (w : ℕ) → length cs ≡ m → colourWord (paint b w cs) b ≡ w

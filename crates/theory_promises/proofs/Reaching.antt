@@ -10,9 +10,9 @@ use Rattle.machine.specs.declared.Colour.the-variants.{Free}
 use Rattle.machine.specs.Heap.{Heap}
 use Rattle.machine.specs.WellFormed.{Block}
 use Rattle.theory_reach.specs.Reaching.{at-root, along}
-use Rattle.theory_moves.specs.Tints as tints
 use Rattle.theory_moves.specs.Heaps.{Reached}
-use Rattle.theory_moves.specs.Safety.{SameCell}
+use Rattle.theory_moves.specs.Demand2.{SameCell}
+use Rattle.theory_moves.specs.Tints as tints
 use Rattle.theory_promises.specs.View.{view, Shape}
 use Rattle.theory_promises.specs.Reachable.{Reachable, isRoot, isNamed, IsFree, SameWord}
 use Rattle.theory_promises.proofs.Viewing.{names-ref, ref-names}

@@ -25,9 +25,9 @@ use Rattle.machine.specs.Session.Call.{Format, Read, Look, StoreNumber, StoreRe
 use Rattle.machine.proofs.Tests.{by-eq}
 use Rattle.theory_moves.specs.Heaps.{Sound}
 use Rattle.theory_moves.specs.Runs.{units}
-use Rattle.theory_moves.specs.Bounds.{unused}
-use Rattle.theory_moves.specs.Taking as taking
-use Rattle.theory_moves.specs.Room.{Event, Session, over, next, Settled, fresh-settled, enough-room, room-margin}
+use Rattle.theory_moves.specs.Demand3.{unused, Event, Session, over, next, Settled}
+use Rattle.theory_moves.proofs.Room.{fresh-settled, enough-room, room-margin}
+use Rattle.theory_moves.specs.Demand3 as abstract
 use Rattle.theory_promises.specs.View.{view}
 use Rattle.theory_promises.specs.Deeds.{Act, Deed, aUnit, anAct, deed, after}
 use Rattle.theory_promises.specs.Plans.{plan, deeds, worked, Resets, asks}
@@ -68,7 +68,7 @@ unfolding after
 proper-right [] es h p = p
 proper-right (d ∷ ds) es h p = proper-right ds es (deed d h) (p .1)
 
-few-view : (k : ℕ) (h : Heap) → Few k h → taking.Few k (view h)
+few-view : (k : ℕ) (h : Heap) → Few k h → abstract.Few k (view h)
 few-view k h f = record { list = f .list; short = f .short; has = λ x r. f .has x (view-reachable r) }
 
 pub call-event : (m u n : ℕ) (c : Call) (h : Heap) → h .regs .blocks ≡ m → h .regs .pace ≡ u → WellFormed h → (Resets c h → ⊥)
@@ -142,14 +142,14 @@ module _ (m u k n : ℕ) (cs : List Call) (q : Premises m u k cs) (a : Asking n 
       let y = known c j (held .formed) .wanting z in
       let w = units-worked m (plan c j .units) j (held .blocks) (held .formed) in
       let paid : u * asks c j ≤ units (w .run) = rw (w .long) (subst (λ (x : ℕ). x * asks c j ≤ plan c j .units) (held .pace) (paid-pace (j .regs) (asks c j) (plan c j .units) (y .0))) in
-      let s = enough-room m u n k (cycles m u) (cycles-enough m u (q .paced)) (view (worked c j)) sound settled (held .events) (w .run) (w .only) (asks c j) b paid l in
+      let s = enough-room m u n k (cycles m u) (view (formatted m u)) (view j) (view (worked c j)) (cycles-enough m u (q .paced)) sound settled (held .events) (w .run) (w .only) (asks c j) b paid l in
       let t = counted (worked c j) (w .blocks) (w .formed) in
       let x = y .1 in
       absurd (omega arith)
 
   left-over : m + 1 ≤ j .regs .count + k + 2 * cycles m u + n
   left-over =
-      let s = room-margin m u n k (cycles m u) (cycles-enough m u (q .paced)) (view j) sound settled (held .events) in
+      let s = room-margin m u n k (cycles m u) (view (formatted m u)) (view j) (cycles-enough m u (q .paced)) sound settled (held .events) in
       let t = counted j (held .blocks) (held .formed) in
       omega arith
 

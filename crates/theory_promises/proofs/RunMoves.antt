@@ -16,8 +16,8 @@ use Rattle.machine.proofs.Tests.{if-true}
 use Rattle.theory_moves.specs.Heaps.{Sound}
 use Rattle.theory_moves.specs.Moves.{Move}
 use Rattle.theory_moves.specs.Kinds.{cost}
-use Rattle.theory_moves.specs.Soundness.{move-sound}
 use Rattle.theory_moves.specs.Runs.{Run, rest, step, units, OnlyUnits}
+use Rattle.theory_moves.proofs.Soundness.{move-sound}
 use Rattle.theory_promises.specs.View.{view}
 use Rattle.theory_promises.specs.Deeds.{aUnit, deed, after}
 use Rattle.theory_promises.proofs.Viewing.{wf-shape, wf-sound, shape-wf}

@@ -39,10 +39,11 @@ use Rattle.machine.proofs.Entering.{first-zero, none-or-block}
 use Rattle.machine.proofs.Refusals.{word-zero, target-zero, holder-live, target-live}
 use Rattle.machine.proofs.Setting.{ready-words, ready-colours, ready-bytes, ready-grey, ready-root}
 use Rattle.machine.proofs.Kept.{head-one, head-elsewhere}
-use Rattle.theory_reach.specs.Sums as sums
-use Rattle.theory_moves.specs.Tints.{stayed, stays-free, was-free}
+use Rattle.theory_moves.specs.Tints.{stayed}
 use Rattle.theory_moves.specs.Heaps.{Abs}
 use Rattle.theory_moves.specs.Moves.{SameCells, Holds, Barred, WriteNumber, WriteRef, SetRoot}
+use Rattle.theory_moves.proofs.Tints.{stays-free, was-free}
+use Rattle.theory_reach.specs.Sums as sums
 use Rattle.theory_promises.specs.View.{tintOf, view, Shape}
 use Rattle.theory_promises.proofs.Viewing.{here, live-view}
 use Rattle.theory_promises.proofs.Chains.{chain-same, same-blocks}

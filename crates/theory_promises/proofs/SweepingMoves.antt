@@ -29,13 +29,13 @@ use Rattle.machine.specs.Ready.{Ready}
 use Rattle.machine.specs.OneUnit.{metBlock, metWord, advance, reclaimed, whitened, passed}
 use Rattle.machine.proofs.Tests.{by-eq, by-test, if-ind}
 use Rattle.machine.proofs.Blocks.{block-isBlock}
-use Rattle.machine.proofs.Bytes.{below-eight}
+use Rattle.machine.proofs.Bytes.{free-rest}
 use Rattle.machine.proofs.Colours.{is-white, is-free}
 use Rattle.machine.proofs.Steps.{never}
 use Rattle.machine.proofs.Kept.{advance-kept, reclaimed-kept, whitened-kept}
-use Rattle.theory_moves.specs.Tints as tints
 use Rattle.theory_moves.specs.Heaps.{span, final}
 use Rattle.theory_moves.specs.Moves.{SameCells, freeing, whitening, passing, Onward, going, ending, Sweep}
+use Rattle.theory_moves.specs.Tints as tints
 use Rattle.theory_promises.specs.View.{tintOf, view, Shape}
 use Rattle.theory_promises.proofs.Viewing.{here, there}
 use Rattle.theory_promises.proofs.Chains.{chain-same, same-blocks, chain-push, push-length}
@@ -263,7 +263,7 @@ module _ (h : Heap) (p : Shape h) (s : h .regs .phase ≡ sweeping) where
           (λ z.
           record {
             byte = ap (byteOf bytes′) z ∙ byte-here;
-            words = λ u o q. ap (λ (x : ℕ). wordOf words′ x u) z ∙ words-here u q ∙ below-eight (λ v. 1 ≤ v → getD (freeWords (h .regs .free)) v 0 ≡ 0) (λ i. absurd (omega arith)) (λ i. refl) (λ i. refl) (λ i. refl) (λ i. refl) (λ i. refl) (λ i. refl) (λ i. refl) u (omega arith) o;
+            words = λ u o q. ap (λ (x : ℕ). wordOf words′ x u) z ∙ words-here u q ∙ free-rest (h .regs .free) u o q;
           })
           (λ n.
           let d = p .laid b (free-iff b n .0 f) in

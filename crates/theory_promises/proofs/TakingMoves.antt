@@ -38,13 +38,13 @@ use Rattle.machine.proofs.Setting.{ready-words, ready-colours, ready-count, rea
 use Rattle.machine.proofs.Entering.{first-zero, block-or-none}
 use Rattle.machine.proofs.Refusals.{holder-live, within-layout, holder-undamaged, target-undamaged}
 use Rattle.machine.proofs.Allocating.{new-marking, new-ahead, new-behind, new-idle, list-none, list-good, list-zero, take-zero, held-root, held-word}
-use Rattle.theory_reach.specs.Sums as sums
+use Rattle.theory_reach.proofs.Splits.{by-le}
 use Rattle.theory_moves.specs.Heaps.{Abs}
 use Rattle.theory_moves.specs.Moves.{SameCells, Fresh, newMarking, newAhead, newBehind, newIdle, Taken, TakeHeld, TakeRoot}
+use Rattle.theory_reach.specs.Sums as sums
 use Rattle.theory_promises.specs.View.{tintOf, view, Shape}
 use Rattle.theory_promises.proofs.Viewing.{here, there, live-view}
 use Rattle.theory_promises.proofs.Chains.{chain-pop, pop-length}
-use Rattle.theory_reach.specs.Splits.{by-le}
 use Rattle.theory_promises.proofs.Painting.{painted, unpainted, word-set, word-kept}
 use Rattle.theory_promises.proofs.Greys.{plain-list}
 use Rattle.theory_promises.proofs.Recolouring.{greys-of, of-greys, recoloured}

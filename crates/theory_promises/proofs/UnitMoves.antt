@@ -22,16 +22,17 @@ use Rattle.machine.proofs.Tests.{both, by-eq, if-true, if-false}
 use Rattle.machine.proofs.Blocks.{below-isBlock, block-isBlock}
 use Rattle.machine.proofs.Steps.{never, begins, turns, marking-as, sweeping-as}
 use Rattle.theory_audit.proofs.Words.{member-names}
-use Rattle.theory_moves.specs.Tints as tints
 use Rattle.theory_moves.specs.Heaps.{Sound}
-use Rattle.theory_moves.specs.Heaps as heaps
 use Rattle.theory_moves.specs.Moves.{Move}
+use Rattle.theory_moves.specs.Kinds.{cost}
+use Rattle.theory_moves.specs.Tints as tints
+use Rattle.theory_moves.specs.Heaps as heaps
 use Rattle.theory_moves.specs.Moves as moves
 use Rattle.theory_moves.specs.Moves.Move.{begin, mark, turn, sweep}
-use Rattle.theory_moves.specs.Kinds.{cost}
 use Rattle.theory_moves.specs.Kinds as moves-kinds
 use Rattle.theory_promises.specs.Deeds.{aUnit}
 use Rattle.theory_promises.specs.Sessions.{marking?}
+use Rattle.theory_moves.proofs.Heaps.{not-white}
 use Rattle.theory_promises.specs.View.{tintOf, view, Shape}
 use Rattle.theory_promises.proofs.Viewing.{here, there, colour-is, names-ref}
 use Rattle.theory_promises.proofs.Greys.{white-colour}
@@ -111,7 +112,15 @@ module _ (h : Heap) (p : Shape h) (d : Sound (h .regs .blocks) (view h)) where
   unfolding act turned
   turn-goes k o =
       by-step Turn (turns m _ _ _ k o)
-      (record { finished = refl; blocks = refl; pace = refl; move = turn (turn-move h p k o); unit = refl; marks = simp (eq-eqb (h .regs .phase) marking k, eq-eqb (h .regs .grey) 1 o); shape = turn-shape h p k o })
+      (record {
+        finished = refl;
+        blocks = refl;
+        pace = refl;
+        move = turn (turn-move h p k o);
+        unit = refl;
+        marks = simp (eq-eqb (h .regs .phase) marking k, eq-eqb (h .regs .grey) 1 o);
+        shape = turn-shape h p k o;
+      })
 
   -- marking: the first of the grey list is grey, and what it names is 0 or live
   head-grey : h .regs .phase ≡ marking → h .regs .grey ≢ 1 → colour m (metWord h) ≡ Grey
@@ -127,8 +136,8 @@ module _ (h : Heap) (p : Shape h) (d : Sound (h .regs .blocks) (view h)) where
       (λ x i z.
       let g = head-listed (p .greys) n in
       let q = member-names h (h .regs .grey) x i in
-      let live : heaps.Live m (view h) (h .regs .grey) = record { block = there (g .block); allocated = λ e. let f : tints.Grey ≡ tints.Free = sym (ap tintOf (g .colour)) ∙ e in never (cc); spared = λ e. let f : tints.Grey ≡ tints.White = sym (ap tintOf (g .colour)) ∙ e .white in never (cc) } in
-      let l = d .namedLive (h .regs .grey) (q .word) x live (names-ref h q) z in
+      let grey : view h .tint (h .regs .grey) ≡ tints.Grey = ap tintOf (g .colour) in
+      let l = d .namedLive (h .regs .grey) (q .word) x (not-white (there (g .block)) (λ e. never (cc)) (λ e. never (cc))) (names-ref h q) z in
       both (block-isBlock m x (here (l .block))) (allocated-tint (colourOf h x) (l .allocated)))
 
   mark-goes : h .regs .phase ≡ marking → h .regs .grey ≢ 1 → Goes h (unit h)

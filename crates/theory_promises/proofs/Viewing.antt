@@ -25,9 +25,9 @@ use Rattle.machine.proofs.Tests.{both-true, by-test, by-eq}
 use Rattle.machine.proofs.Steps.{never}
 use Rattle.machine.proofs.Entering.{tests-ready, ready-fits, ready-legal}
 use Rattle.machine.proofs.Kept.{head-elsewhere}
+use Rattle.theory_moves.specs.Heaps.{named, ref, Doomed, Sound}
 use Rattle.theory_reach.specs.Sums as sums
 use Rattle.theory_moves.specs.Tints as tints
-use Rattle.theory_moves.specs.Heaps.{named, ref, Doomed, Sound}
 use Rattle.theory_moves.specs.Heaps as heaps
 use Rattle.theory_promises.specs.View.{tintOf, view, Shape}
 

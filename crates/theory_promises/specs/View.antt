@@ -18,8 +18,8 @@ use Rattle.machine.specs.Heap.{Heap, colourOf}
 use Rattle.machine.specs.WellFormed.{Block, Coloured, Exactly, LaidOut}
 use Rattle.machine.specs.Ready.{Ready}
 use Rattle.theory_moves.specs.Tints.{Tint}
-use Rattle.theory_moves.specs.Tints as tints
 use Rattle.theory_moves.specs.Heaps.{Abs}
+use Rattle.theory_moves.specs.Tints as tints
 
 -- a colour word outside the layout is on no block of a well-formed heap, so what it is seen as does not matter
 abbrev pub tintOf : Colour → Tint

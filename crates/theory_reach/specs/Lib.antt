@@ -1,5 +1,4 @@
--- Reachability and counting. Nothing here knows how a heap is laid out. Read in this order.
-pub mod Splits
+-- Reachability and counting: what is meant. Nothing here knows how a heap is laid out.
 pub mod Reaching
 pub mod Sums
 pub mod Listed

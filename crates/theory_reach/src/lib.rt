@@ -1,1 +1,1 @@
-// Reachability and counting over numbered blocks: theory alone, in specs/.
+// Reachability and counting over numbered blocks: theory alone. See specs/ and proofs/.

@@ -66,7 +66,13 @@ loop-less c = search needs
 loop-again : tie.Need-loop-again Inv-loop μ-loop
 loop-again c =
     let c-loop = c .before .before .before .before .before .loop in
-    (omega arith, omega arith, omega arith, c .before .words .given .1 ∙ c-loop .inv .3, link-step _ _ _ _ _ (c-loop .b) (c-loop .left - 1) _ (omega arith) (c-loop .inv .1) (omega arith) (sym (if-false _ _ (ne-eqb (c-loop .left - 1) 0 (λ z. absurd (omega arith))))) (c .before .before .clear .ensures) (c-loop .inv .4))
+    let more = sym (if-false _ _ (ne-eqb (c-loop .left - 1) 0 (λ z. absurd (omega arith)))) in (
+      omega arith,
+      omega arith,
+      omega arith,
+      c .before .words .given .1 ∙ c-loop .inv .3,
+      link-step _ _ _ _ _ (c-loop .b) (c-loop .left - 1) _ (omega arith) (c-loop .inv .1) (omega arith) more (c .before .before .clear .ensures) (c-loop .inv .4),
+    )
 
 cast-from : tie.Need-cast-from Inv-loop μ-loop
 cast-from c = search needs

@@ -14,7 +14,8 @@ use Rattle.part_mark.proofs.grey_all.Tie as tie
 
 abbrev Inv-loop : tie.InvT-loop
 Inv-loop head colours₀ part byte g₀ rest₀ w₀ colours g rest w =
-    (w ≤ 8) × (rest ≡ byte / 2 ^ w) × (length colours ≡ length colours₀) × Named (length colours₀) (from part byte w) × (greyAll (length colours₀) (references part byte) (record { head = head; cells = colours₀ }) ≡ greyAll (length colours₀) (from part byte w) (record { head = g; cells = colours }))
+    (w ≤ 8) × (rest ≡ byte / 2 ^ w) × (length colours ≡ length colours₀) × Named (length colours₀) (from part byte w)
+    × (greyAll (length colours₀) (references part byte) (record { head = head; cells = colours₀ }) ≡ greyAll (length colours₀) (from part byte w) (record { head = g; cells = colours }))
 
 abbrev μ-loop : tie.MeasureT-loop
 μ-loop head colours₀ part byte g₀ rest₀ w₀ colours g rest w = 8 - w
@@ -53,7 +54,13 @@ loop-again c =
     let c-fits = c .before .before .before .before .before .before .before .before .fits in
     let c-loop-test = c .before .before .before .before .loop-test in
     let l = rest-within (c-args .part .now) _ _ _ (c-loop .inv .1) (c-fits .byte .fits) (c-loop .inv .0) (c-loop-test .taken) in
-    (omega arith, rest-next (c-args .part .now) _ _ _ (c-loop .inv .1), c .before .before .grey-word .kept .1 .0 ∙ c-loop .inv .2, named-on _ _ _ _ (c-loop .inv .1) l _ (c-loop .inv .3), c-loop .inv .4 ∙ grey-on _ _ _ _ (c-loop .inv .1) l _ _ (rw (← c-loop .inv .2) (c .before .before .grey-word .ensures)))
+    let c-grey-word = c .before .before .grey-word in (
+      omega arith,
+      rest-next (c-args .part .now) _ _ _ (c-loop .inv .1),
+      c-grey-word .kept .1 .0 ∙ c-loop .inv .2,
+      named-on _ _ _ _ (c-loop .inv .1) l _ (c-loop .inv .3),
+      c-loop .inv .4 ∙ grey-on _ _ _ _ (c-loop .inv .1) l _ _ (rw (← c-loop .inv .2) (c-grey-word .ensures)),
+    )
 
 same-length : tie.Need-same-length Inv-loop μ-loop
 same-length c = c .before .loop .inv .2

@@ -35,7 +35,8 @@ returns c =
     let c-word-of = c .before .before .before .before .before .before .before .word-of in
     let c-step = c .before .before .before .before .before .before .step in
     let c-enum-told = c .before .before .before .before .enum-told in
-    unit-by (c-args .r) (c-args .words .now) (c-args .colours .now) (c-args .bytes .now) (met-marking (c-args .r) (c-args .words .now) (c-args .colours .now) (c-args .bytes .now) (c-pre .1) (marks-block _ (c-pre .0) (c-pre .2)) (c-word-of .ensures)) (c-step .ensures) (c-enum-told .given .1) (c .before .before .mark .ensures)
+    let met = met-marking (c-args .r) (c-args .words .now) (c-args .colours .now) (c-args .bytes .now) (c-pre .1) (marks-block _ (c-pre .0) (c-pre .2)) (c-word-of .ensures) in
+    unit-by (c-args .r) (c-args .words .now) (c-args .colours .now) (c-args .bytes .now) met (c-step .ensures) (c-enum-told .given .1) (c .before .before .mark .ensures)
 
 same-length-2 : tie.Need-same-length-2
 same-length-2 c = refl
@@ -45,7 +46,9 @@ unfolding act ended
 returns-2 c =
     let c-args = c .before .before .before .before .before .before .before .args in
     let c-pre = c .before .before .before .before .before .before .before .pre in
-    unit-by (c-args .r) (c-args .words .now) (c-args .colours .now) (c-args .bytes .now) (met-marking (c-args .r) (c-args .words .now) (c-args .colours .now) (c-args .bytes .now) (c-pre .1) (marks-block _ (c-pre .0) (c-pre .2)) (c .before .before .word-of .ensures)) (c .before .step .ensures) (marks-or _ _ _ _ (c .before .step .ensures) (c-pre .1) (c-pre .2) (c .match .keys2)) refl
+    let c-step = c .before .step in
+    let met = met-marking (c-args .r) (c-args .words .now) (c-args .colours .now) (c-args .bytes .now) (c-pre .1) (marks-block _ (c-pre .0) (c-pre .2)) (c .before .before .word-of .ensures) in
+    unit-by (c-args .r) (c-args .words .now) (c-args .colours .now) (c-args .bytes .now) met (c-step .ensures) (marks-or _ _ _ _ (c-step .ensures) (c-pre .1) (c-pre .2) (c .match .keys2)) refl
 
 pub mark-unit-spec : {M : Type 1} → statement M
 mark-unit-spec =

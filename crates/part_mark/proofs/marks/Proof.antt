@@ -65,7 +65,14 @@ loop-again c =
     let c-mark-unit = c .before .before .before .before .before .mark-unit in
     let c-loop = c .before .before .before .before .before .before .before .before .before .before .loop in
     let c-if1 = c .before .before .before .before .before .before .before .if1 in
-    (omega arith, c-mark-unit .kept .1 .1 .0 ∙ c-loop .inv .1, done-kept _ (c-loop .inv .2) _ _ _ _ _ _ (c-mark-unit .ensures) (c .before .next .given .1), done-marking _ _ _ _ _ _ (c-mark-unit .ensures) (c .before .next .given .1) (c-loop .inv .3) (differ _ _ (c-if1 .taken)), λ e. absurd (omega arith), loop-on _ _ (c-loop .s) _ (c-loop .colours) _ _ _ (c-loop .inv .5) _ _ _ (c-mark-unit .ensures) _ (c .before .next .given .1) _ _ (omega arith) (omega arith))
+    let c-next = c .before .next in (
+      omega arith,
+      c-mark-unit .kept .1 .1 .0 ∙ c-loop .inv .1,
+      done-kept _ (c-loop .inv .2) _ _ _ _ _ _ (c-mark-unit .ensures) (c-next .given .1),
+      done-marking _ _ _ _ _ _ (c-mark-unit .ensures) (c-next .given .1) (c-loop .inv .3) (differ _ _ (c-if1 .taken)),
+      λ e. absurd (omega arith),
+      loop-on _ _ (c-loop .s) _ (c-loop .colours) _ _ _ (c-loop .inv .5) _ _ _ (c-mark-unit .ensures) _ (c-next .given .1) _ _ (omega arith) (omega arith),
+    )
 
 sub-t16 : tie.Need-sub-t16 Inv-loop μ-loop
 sub-t16 c = omega arith

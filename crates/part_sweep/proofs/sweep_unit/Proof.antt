@@ -59,7 +59,8 @@ returns c =
     let c-step = c .before .before .before .before .before .before .before .before .before .before .before .before .step in
     let c-enum-told = c .before .before .before .before .before .before .before .before .before .before .enum-told in
     let c-reclaim = c .before .before .before .before .before .before .reclaim in
-    (unit-by (c-args .r) (c-args .words .now) (c-args .colours .now) (c-args .bytes .now) (met-sweeping (c-args .r) (c-args .words .now) (c-args .colours .now) (c-args .bytes .now) (c-pre .1) (sweeps-block _ (c-pre .0) (c-pre .1)) (c-word-of .ensures)) (c-step .ensures) (c-enum-told .given .1) (c-reclaim .ensures .0), c-reclaim .ensures .1)
+    let met = met-sweeping (c-args .r) (c-args .words .now) (c-args .colours .now) (c-args .bytes .now) (c-pre .1) (sweeps-block _ (c-pre .0) (c-pre .1)) (c-word-of .ensures) in
+    (unit-by (c-args .r) (c-args .words .now) (c-args .colours .now) (c-args .bytes .now) met (c-step .ensures) (c-enum-told .given .1) (c-reclaim .ensures .0), c-reclaim .ensures .1)
 
 same-length-4 : tie.Need-same-length-4
 same-length-4 c = search needs
@@ -72,7 +73,11 @@ returns-2 c =
     let c-word-of = c .before .before .before .before .before .before .before .word-of in
     let c-step = c .before .before .before .before .before .before .step in
     let c-enum-told2 = c .before .before .before .before .enum-told2 in
-    (unit-by (c-args .r) (c-args .words .now) (c-args .colours .now) (c-args .bytes .now) (met-sweeping (c-args .r) (c-args .words .now) (c-args .colours .now) (c-args .bytes .now) (c-pre .1) (sweeps-block _ (c-pre .0) (c-pre .1)) (c-word-of .ensures)) (c-step .ensures) (c-enum-told2 .given .1) (ap finish (c .before .before .whiten .ensures .0 _ _)), stepped (c-args .r) _ (c .before .before .whiten .ensures .1) refl refl refl)
+    let c-whiten = c .before .before .whiten in
+    let met = met-sweeping (c-args .r) (c-args .words .now) (c-args .colours .now) (c-args .bytes .now) (c-pre .1) (sweeps-block _ (c-pre .0) (c-pre .1)) (c-word-of .ensures) in (
+      unit-by (c-args .r) (c-args .words .now) (c-args .colours .now) (c-args .bytes .now) met (c-step .ensures) (c-enum-told2 .given .1) (ap finish (c-whiten .ensures .0 _ _)),
+      stepped (c-args .r) _ (c-whiten .ensures .1) refl refl refl,
+    )
 
 same-length-5 : tie.Need-same-length-5
 same-length-5 c = refl
@@ -83,7 +88,12 @@ returns-3 c =
     let c-args = c .before .before .before .before .before .before .before .before .before .args in
     let c-pre = c .before .before .before .before .before .before .before .before .before .pre in
     let c-word-of = c .before .before .before .before .word-of in
-    (unit-by (c-args .r) (c-args .words .now) (c-args .colours .now) (c-args .bytes .now) (met-sweeping (c-args .r) (c-args .words .now) (c-args .colours .now) (c-args .bytes .now) (c-pre .1) (sweeps-block _ (c-pre .0) (c-pre .1)) (c-word-of .ensures)) (c .before .before .before .step .ensures) (c .before .enum-told3 .given .1) (rw (c .onward .ensures, advance-settles (c-args .r)) refl), stepped (c-args .r) _ (c .onward .ensures) refl refl refl)
+    let c-step = c .before .before .before .step in
+    let c-enum-told3 = c .before .enum-told3 in
+    let met = met-sweeping (c-args .r) (c-args .words .now) (c-args .colours .now) (c-args .bytes .now) (c-pre .1) (sweeps-block _ (c-pre .0) (c-pre .1)) (c-word-of .ensures) in (
+      unit-by (c-args .r) (c-args .words .now) (c-args .colours .now) (c-args .bytes .now) met (c-step .ensures) (c-enum-told3 .given .1) (rw (c .onward .ensures, advance-settles (c-args .r)) refl),
+      stepped (c-args .r) _ (c .onward .ensures) refl refl refl,
+    )
 
 same-length-6 : tie.Need-same-length-6
 same-length-6 c = refl
@@ -93,7 +103,9 @@ unfolding act ended
 returns-4 c =
     let c-args = c .before .before .before .before .before .before .before .args in
     let c-pre = c .before .before .before .before .before .before .before .pre in
-    (unit-by (c-args .r) (c-args .words .now) (c-args .colours .now) (c-args .bytes .now) (met-sweeping (c-args .r) (c-args .words .now) (c-args .colours .now) (c-args .bytes .now) (c-pre .1) (sweeps-block _ (c-pre .0) (c-pre .1)) (c .before .before .word-of .ensures)) (c .before .step .ensures) (sweeps-or _ _ _ _ (c .before .step .ensures) (c-pre .1) (c .match .keys4)) refl, tt)
+    let c-step = c .before .step in
+    let met = met-sweeping (c-args .r) (c-args .words .now) (c-args .colours .now) (c-args .bytes .now) (c-pre .1) (sweeps-block _ (c-pre .0) (c-pre .1)) (c .before .before .word-of .ensures) in
+    (unit-by (c-args .r) (c-args .words .now) (c-args .colours .now) (c-args .bytes .now) met (c-step .ensures) (sweeps-or _ _ _ _ (c-step .ensures) (c-pre .1) (c .match .keys4)) refl, tt)
 
 pub sweep-unit-spec : {M : Type 1} → statement M
 sweep-unit-spec =

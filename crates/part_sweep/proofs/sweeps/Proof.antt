@@ -42,13 +42,22 @@ sub-t17 : tie.Need-sub-t17 Inv-loop μ-loop
 sub-t17 c = c .before .before .before .before .before .before .before .before .before .before .before .before .before .before .before .before .loop .inv .3 .from
 
 same-length : tie.Need-same-length Inv-loop μ-loop
-same-length c = c .before .before .before .before .before .before .before .before .before .before .sweep-unit .kept .1 .0 ∙ c .before .before .before .before .before .before .before .before .before .before .before .before .before .before .before .before .loop .inv .0
+same-length c =
+    let c-sweep-unit = c .before .before .before .before .before .before .before .before .before .before .sweep-unit in
+    let c-loop = c .before .before .before .before .before .before .before .before .before .before .before .before .before .before .before .before .loop in
+    c-sweep-unit .kept .1 .0 ∙ c-loop .inv .0
 
 same-length-2 : tie.Need-same-length-2 Inv-loop μ-loop
-same-length-2 c = c .before .before .before .before .before .before .before .before .before .before .sweep-unit .kept .1 .1 .0 ∙ c .before .before .before .before .before .before .before .before .before .before .before .before .before .before .before .before .loop .inv .1
+same-length-2 c =
+    let c-sweep-unit = c .before .before .before .before .before .before .before .before .before .before .sweep-unit in
+    let c-loop = c .before .before .before .before .before .before .before .before .before .before .before .before .before .before .before .before .loop in
+    c-sweep-unit .kept .1 .1 .0 ∙ c-loop .inv .1
 
 same-length-3 : tie.Need-same-length-3 Inv-loop μ-loop
-same-length-3 c = c .before .before .before .before .before .before .before .before .before .before .sweep-unit .kept .1 .1 .1 .0 ∙ c .before .before .before .before .before .before .before .before .before .before .before .before .before .before .before .before .loop .inv .2
+same-length-3 c =
+    let c-sweep-unit = c .before .before .before .before .before .before .before .before .before .before .sweep-unit in
+    let c-loop = c .before .before .before .before .before .before .before .before .before .before .before .before .before .before .before .before .loop in
+    c-sweep-unit .kept .1 .1 .1 .0 ∙ c-loop .inv .2
 
 returns : tie.Need-returns Inv-loop μ-loop
 returns c =
@@ -68,8 +77,13 @@ loop-again : tie.Need-loop-again Inv-loop μ-loop
 loop-again c =
     let c-sweep-unit = c .before .before .before .before .before .before .before .before .before .sweep-unit in
     let c-if1 = c .before .before .before .before .before .before .before .before .before .before .before .before .before .if1 in
-    let c-loop = c .before .before .before .before .before .before .before .before .before .before .before .before .before .before .before .loop in
-    (c-sweep-unit .kept .1 .0 ∙ c-loop .inv .0, c-sweep-unit .kept .1 .1 .0 ∙ c-loop .inv .1, c-sweep-unit .kept .1 .1 .1 .0 ∙ c-loop .inv .2, swept-on _ _ _ _ (c-loop .s) (c-loop .words) (c-loop .colours) (c-loop .bytes) (c-loop .inv .3) (c-if1 .taken) _ _ _ (c-sweep-unit .ensures .0) (c-sweep-unit .ensures .1) _ (c .before .next .given .1))
+    let c-loop = c .before .before .before .before .before .before .before .before .before .before .before .before .before .before .before .loop in (
+      c-sweep-unit .kept .1 .0 ∙ c-loop .inv .0,
+      c-sweep-unit .kept .1 .1 .0 ∙ c-loop .inv .1,
+      c-sweep-unit .kept .1 .1 .1 .0 ∙ c-loop .inv .2,
+      swept-on _ _ _ _ (c-loop .s) (c-loop .words) (c-loop .colours) (c-loop .bytes) (c-loop .inv .3) (c-if1 .taken)
+          _ _ _ (c-sweep-unit .ensures .0) (c-sweep-unit .ensures .1) _ (c .before .next .given .1),
+    )
 
 settled-requires : tie.Need-settled-requires Inv-loop μ-loop
 settled-requires c κs =

@@ -7,7 +7,7 @@
 --     begin-waits          at a beginning, what is allocated and out of reach is Waiting
 --     waits-on             a move of the cycle leaves it Waiting, unless it frees it
 --     waits-kept, waits-not     a block that waits is allocated; when the collector is idle none waits
---     garbage-goes         the cycle over, it was freed
+--     garbage-goes         the statement GarbageGoes: the cycle over, it was freed
 -- Each write of a reference and each root change in between must name 0 or a block reachable at that moment: it is then in S, for S is closed.
 -- While marking no block is freed, so a block taken was free at the beginning, and in S from the start.
 -- So only blocks of S turn grey; a block out of S is white at the turn, hence doomed, and the sweep frees it when it comes to it.
@@ -16,16 +16,22 @@ use Prim.Native.Nat.{ℕ}
 use mathlib.Core.Path.{_≡_, refl, sym, _∙_, subst}
 use mathlib.Core.Logic.{_≢_}
 use native.Mathlib.Omega.{arith}
-use Rattle.theory_reach.specs.Splits.{never, by-eq}
+use Rattle.theory_reach.specs.Reaching.{at-root, along}
 use Rattle.theory_reach.specs.Sums.{Block}
-use Rattle.theory_reach.specs.Reaching.{at-root, along, reach-closed}
-use Rattle.theory_moves.specs.Tints.{White, Free, Turned, turned, stayed, tint-cases, by-free, by-white}
-use Rattle.theory_moves.specs.Heaps.{Abs, idle, marking, named, ref, Reached, Doomed, Live, Sound, final, final-over}
-use Rattle.theory_moves.specs.Moves.{Begin, Names, Mark, Turn, Swept, freeing, whitening, passing, Onward, going, ending, Sweep, Move, begin, mark, turn, sweep, writeNumber, writeRef, setRoot, takeHeld, takeRoot}
-use Rattle.theory_moves.specs.Mutating.{Tinted, keeps, greys, takes, Mutation, same-ref, tinted-steady, number-mutation, ref-mutation, root-mutation, held-mutation, taken-mutation}
-use Rattle.theory_moves.specs.Soundness.{move-sound, begin-sound}
+use Rattle.theory_reach.proofs.Splits.{never, by-eq}
+use Rattle.theory_reach.proofs.Reaching.{reach-closed}
+use Rattle.theory_moves.specs.Tints.{White, Free, Turned, turned, stayed}
+use Rattle.theory_moves.specs.Heaps.{Abs, idle, marking, named, ref, Reached, Doomed, Live, Sound, final}
+use Rattle.theory_moves.specs.Moves.{Begin, Names, Mark, Turn, Swept, freeing, whitening, passing, Onward, going, ending, Sweep}
+use Rattle.theory_moves.specs.Moves.{Move, begin, mark, turn, sweep, writeNumber, writeRef, setRoot, takeHeld, takeRoot}
 use Rattle.theory_moves.specs.Kinds.{begun}
-use Rattle.theory_moves.specs.Runs.{Run, rest, step, begins, Proper, ProperRun, FreedIn, frees-now, freed-later}
+use Rattle.theory_moves.specs.Runs.{Run, rest, step, begins, Proper, ProperRun, FreedIn, freed-later}
+use Rattle.theory_moves.specs.Demand2.{GarbageGoes}
+use Rattle.theory_moves.proofs.Tints.{tint-cases, by-free, by-white}
+use Rattle.theory_moves.proofs.Heaps.{final-over}
+use Rattle.theory_moves.proofs.Runs.{frees-now}
+use Rattle.theory_moves.proofs.Mutating.{Tinted, keeps, greys, takes, Mutation, same-ref, tinted-steady, number-mutation, ref-mutation, root-mutation, held-mutation, taken-mutation}
+use Rattle.theory_moves.proofs.Soundness.{move-sound, begin-sound}
 
 pub record Trail (M : ℕ) (S : ℕ → Type 0) (h : Abs) : Type 0 where
   pub rootIn : h .root ≢ 0 → S (h .root)
@@ -180,8 +186,5 @@ module _ {M : ℕ} {S : ℕ → Type 0} {g : ℕ} (l : Block M g) where
       (λ f. frees-now l m (waits-kept l w) f)
       (λ a. freed-later m (waits-freed (move-sound s m) (waits-on s l m (omega arith) (p .0) a w) r (omega arith) (p .1) i))
 
-module _ {M g : ℕ} {h i k : Abs} where
-  -- h is the heap at the beginning, i the heap just after it, k idle again
-  pub garbage-goes : Sound M h → Begin M h i → Block M g → h .tint g ≢ Free → (Reached h g → ⊥)
-      → (r : Run M i k) → begins r ≡ 0 → ProperRun r → k .phase ≡ idle → FreedIn M g i k r
-  garbage-goes s m l a n r e p z = waits-freed l (begin-sound s m) (begin-waits s m a n) r e p z
+pub garbage-goes : GarbageGoes
+garbage-goes M g h i k s m l a n r e p z = waits-freed l (begin-sound s m) (begin-waits s m a n) r e p z

@@ -6,11 +6,13 @@
 -- Assumes nothing.
 use Prim.Native.Nat.{ℕ}
 use mathlib.Core.Path.{_≡_, refl, _∙_}
-use Rattle.theory_moves.specs.Heaps.{Abs, Reached, Live, Sound, reached-live}
+use Rattle.theory_moves.specs.Heaps.{Abs, Reached, Live, Sound}
 use Rattle.theory_moves.specs.Moves.{SameCells}
-use Rattle.theory_moves.specs.Soundness.{move-sound}
-use Rattle.theory_moves.specs.Safety.{unit-cells, unit-root, unit-over, unit-back}
-use Rattle.theory_moves.specs.Runs.{Run, rest, step, OnlyUnits, run-sound}
+use Rattle.theory_moves.specs.Runs.{Run, rest, step, OnlyUnits}
+use Rattle.theory_moves.proofs.Heaps.{reached-live}
+use Rattle.theory_moves.proofs.Runs.{run-sound}
+use Rattle.theory_moves.proofs.Soundness.{move-sound}
+use Rattle.theory_moves.proofs.Safety.{unit-cells, unit-root, unit-over, unit-back}
 
 cells-join : {h i k : Abs} {b : ℕ} → SameCells h i b → SameCells i k b → SameCells h k b
 cells-join p q = record { words = λ w. q .words w ∙ p .words w; bits = λ w. q .bits w ∙ p .bits w }

@@ -11,12 +11,16 @@ use mathlib.Core.Path.{_≡_, refl, sym, _∙_, subst}
 use mathlib.Core.Logic.{_≢_}
 use mathlib.Core.Bool.{false}
 use native.Mathlib.Omega.{arith}
-use Rattle.theory_reach.specs.Splits.{never, by-eq}
 use Rattle.theory_reach.specs.Sums.{Block}
-use Rattle.theory_moves.specs.Tints.{Tint, White, Grey, Black, Free, tint-cases, was-white, white-out, was-black, was-free, stays-free}
-use Rattle.theory_moves.specs.Heaps.{Abs, idle, marking, sweeping, named, ref, Doomed, Live, Sound, off-sweep, not-white, final, final-over}
-use Rattle.theory_moves.specs.Moves.{SameCells, Begin, Names, Mark, Turn, Swept, freeing, whitening, passing, Onward, going, ending, Sweep, Fresh, newMarking, newAhead, newBehind, newIdle, Move, begin, mark, turn, sweep, writeNumber, writeRef, setRoot, takeHeld, takeRoot}
-use Rattle.theory_moves.specs.Mutating.{Tinted, keeps, greys, takes, Mutation, same-ref, fresh-grey, tinted-free, tinted-white, tinted-live, was-live, number-mutation, ref-mutation, root-mutation, held-mutation, taken-mutation}
+use Rattle.theory_reach.proofs.Splits.{never, by-eq}
+use Rattle.theory_moves.specs.Tints.{Tint, White, Grey, Black, Free}
+use Rattle.theory_moves.specs.Heaps.{Abs, idle, marking, sweeping, named, ref, Doomed, Live, Sound, final}
+use Rattle.theory_moves.specs.Moves.{SameCells, Begin, Names, Mark, Turn, Swept, freeing, whitening, passing, Onward, going, ending, Sweep, Fresh, newMarking, newAhead, newBehind, newIdle}
+use Rattle.theory_moves.specs.Moves.{Move, begin, mark, turn, sweep, writeNumber, writeRef, setRoot, takeHeld, takeRoot}
+use Rattle.theory_moves.proofs.Tints.{tint-cases, was-white, white-out, was-black, was-free, stays-free}
+use Rattle.theory_moves.proofs.Heaps.{off-sweep, not-white, final-over}
+use Rattle.theory_moves.proofs.Mutating.{Tinted, keeps, greys, takes, Mutation, same-ref, fresh-grey, tinted-free, tinted-white, tinted-live}
+use Rattle.theory_moves.proofs.Mutating.{was-live, number-mutation, ref-mutation, root-mutation, held-mutation, taken-mutation}
 
 module _ {M : ℕ} {h k : Abs} (s : Sound M h) where
   pub begin-sound : Begin M h k → Sound M k

@@ -1,25 +1,26 @@
 -- Acts in a row: runs of the running program's moves, with no unit among them.
 --     acts-live            a live block stays live
 --     act-kept             no block is freed
---     WritesIn r b w       some move of the run writes word w of b
 --     acts-cells           a live block's word that none of them writes is as it was
 --     acts-begin, acts-mark     none begins a cycle, none marks
 --     joined-taken         the blocks that two runs joined take
 -- Assumes nothing.
 use Prim.Native.Nat.{ℕ, _+_, _≤_}
 use mathlib.Core.Path.{_≡_, refl, sym, _∙_}
-use mathlib.Core.Logic.{_≢_, _⊎_, inl, inr}
+use mathlib.Core.Logic.{_≢_, inl, inr}
 use native.Mathlib.Omega.{arith}
 use lib.ListN.{length, length-append}
-use Rattle.theory_reach.specs.Splits.{never}
 use Rattle.theory_reach.specs.Sums.{Block}
+use Rattle.theory_reach.proofs.Splits.{never}
 use Rattle.theory_moves.specs.Tints.{Free}
 use Rattle.theory_moves.specs.Heaps.{Abs, Live}
 use Rattle.theory_moves.specs.Moves.{Move, begin, mark, turn, sweep, writeNumber, writeRef, setRoot, takeHeld, takeRoot}
-use Rattle.theory_moves.specs.Kinds.{cost, Writes, marked, begun-cost}
-use Rattle.theory_moves.specs.Mutating.{Mutation, tinted-kept, tinted-live, number-mutation, ref-mutation, root-mutation, held-mutation, taken-mutation}
-use Rattle.theory_moves.specs.Safety.{SameCell, cells-kept}
-use Rattle.theory_moves.specs.Runs.{Run, rest, step, joined, units, marks, begins, taken}
+use Rattle.theory_moves.specs.Kinds.{cost, marked}
+use Rattle.theory_moves.specs.Runs.{WritesIn, Run, rest, step, joined, units, marks, begins, taken}
+use Rattle.theory_moves.specs.Demand2.{SameCell}
+use Rattle.theory_moves.proofs.ByKind.{begun-cost}
+use Rattle.theory_moves.proofs.Mutating.{Mutation, tinted-kept, tinted-live, number-mutation, ref-mutation, root-mutation, held-mutation, taken-mutation}
+use Rattle.theory_moves.proofs.Safety.{cells-kept}
 
 -- a move that is no unit is a Mutation
 act-changes : {M : ℕ} {h k : Abs} (m : Move M h k) → cost m ≡ 0 → (n : ℕ) × Mutation M n h k
@@ -43,10 +44,6 @@ marked-cost (writeRef b w t m) = omega arith
 marked-cost (setRoot t m) = omega arith
 marked-cost (takeHeld x b w m) = omega arith
 marked-cost (takeRoot x m) = omega arith
-
-abbrev pub WritesIn : {M : ℕ} {h k : Abs} → Run M h k → ℕ → ℕ → Type 0
-WritesIn rest b w = ⊥
-WritesIn (step m r) b w = Writes m b w ⊎ WritesIn r b w
 
 module _ {M : ℕ} where
   act-live : {h k : Abs} (m : Move M h k) → cost m ≡ 0 → {b : ℕ} → Live M h b → Live M k b

@@ -1,16 +1,17 @@
 -- A cycle is short.
---     pends, stands, lies  the weights: 1 for white and grey, for what is allocated, for free, else 0
+--     pends                the weight: 1 for white and grey, else 0
 --     pending M h          the number of white and grey blocks
---     allocated M h, unused M h     the number of allocated and of free blocks; together M (all-blocks)
+--     all-blocks           allocated and free blocks are together M
 --     left M h             a bound on the units that the cycle has still to do (left-idle, left-marking, left-sweeping: by phase)
 --     move-lowers          every unit of a cycle after its first lowers left by at least 1, and no other move raises it; run-lowers: so along a run
 --     begin-left           what is left just after a beginning with A allocated blocks: A + 1 + span
---     cycle-short          a cycle that begins with A allocated blocks: units spent, with those left, are at most A + span + 2
+--     cycle-spent          a cycle that begins with A allocated blocks: units spent, with those left, are at most A + span + 2
 --     cycle-most           so a cycle takes at most A + M + 2 units
 --     ahead M h            the turn and the sweep moves that the cycle has still to do (ahead-idle, ahead-marking, ahead-sweeping: by phase)
 --     move-ahead, run-ahead     every unit but a mark lowers it by 1, nothing else changes it
 --     cycle-exact          a whole cycle takes 2 units, one for each block marked, and one for each block that the sweep visits
 --     marks-few            so it marks at most A blocks
+--     cycle-short          the statement CycleShort
 -- Both are stated with the span before and after: left and span would rise alike, should a move raise the span.
 -- While marking: white and grey blocks, the turn, the sweep. A mark turns one grey block black; the barrier turns white to grey; a block taken is
 -- black. While sweeping: the blocks from the position on.
@@ -18,42 +19,29 @@
 use Prim.Native.Nat.{ℕ, zero, suc, _+_, _-_, _≤_}
 use mathlib.Core.Path.{_≡_, refl, sym, _∙_, ap}
 use native.Mathlib.Omega.{arith}
-use Rattle.theory_reach.specs.Splits.{never}
-use Rattle.theory_reach.specs.Sums.{Block, total, total-le, total-same, total-down, total-plus, total-ones}
-use Rattle.theory_moves.specs.Tints.{Tint, White, Grey, Black, Free, Turned, turned, stayed, tint-cases}
-use Rattle.theory_moves.specs.Heaps.{Abs, idle, marking, sweeping, Sound, span, span-same, span-most, final}
-use Rattle.theory_moves.specs.Moves.{Begin, Mark, Onward, going, ending, Sweep, Fresh, newMarking, newAhead, newBehind, newIdle, Move, begin, mark, turn, sweep, writeNumber, writeRef, setRoot, takeHeld, takeRoot}
-use Rattle.theory_moves.specs.Mutating.{Tinted, keeps, greys, takes, Mutation, number-mutation, ref-mutation, root-mutation, held-mutation, taken-mutation}
+use Rattle.theory_reach.specs.Sums.{Block, total}
+use Rattle.theory_reach.proofs.Splits.{never}
+use Rattle.theory_reach.proofs.Sums.{total-le, total-same, total-down, total-plus, total-ones}
+use Rattle.theory_moves.specs.Tints.{Tint, White, Grey, Black, Free, Turned, turned, stayed}
+use Rattle.theory_moves.specs.Heaps.{Abs, idle, marking, sweeping, Sound, span, final}
+use Rattle.theory_moves.specs.Moves.{Begin, Mark, Onward, going, ending, Sweep, Fresh, newMarking, newAhead, newBehind, newIdle}
+use Rattle.theory_moves.specs.Moves.{Move, begin, mark, turn, sweep, writeNumber, writeRef, setRoot, takeHeld, takeRoot}
 use Rattle.theory_moves.specs.Kinds.{cost, marked, begun}
 use Rattle.theory_moves.specs.Runs.{Run, rest, step, units, marks, begins}
+use Rattle.theory_moves.specs.Demand3.{stands, lies, allocated, unused, CycleShort}
+use Rattle.theory_moves.proofs.Tints.{tint-cases}
+use Rattle.theory_moves.proofs.Heaps.{span-same, span-most}
+use Rattle.theory_moves.proofs.Mutating.{Tinted, keeps, greys, takes, Mutation, number-mutation, ref-mutation, root-mutation, held-mutation, taken-mutation}
 
--- weights
+-- the weight of what is still to mark
 abbrev pub pends : Tint → ℕ
 pends White = 1
 pends Grey = 1
 pends Black = 0
 pends Free = 0
 
-abbrev pub stands : Tint → ℕ
-stands White = 1
-stands Grey = 1
-stands Black = 1
-stands Free = 0
-
-abbrev pub lies : Tint → ℕ
-lies White = 0
-lies Grey = 0
-lies Black = 0
-lies Free = 1
-
 abbrev pub pending : ℕ → Abs → ℕ
 pending M h = total M (λ c. pends (h .tint c))
-
-abbrev pub allocated : ℕ → Abs → ℕ
-allocated M h = total M (λ c. stands (h .tint c))
-
-abbrev pub unused : ℕ → Abs → ℕ
-unused M h = total M (λ c. lies (h .tint c))
 
 pub all-blocks : (M : ℕ) (h : Abs) → allocated M h + unused M h ≡ M
 all-blocks M h =
@@ -198,15 +186,18 @@ module _ {M : ℕ} where
           ∙ tint-cases (h .tint c) (λ e. rw e refl) (λ e. absurd (s .idleGrey (m .before) c l e)) (λ e. absurd (s .idleBlack (m .before) c l e)) (λ e. rw e refl)
 
   -- h is the heap at the beginning, i just after it; the beginning is the first unit
-  pub cycle-short : {h i k : Abs} → Sound M h → Begin M h i → (r : Run M i k) → begins r ≡ 0 → 1 + units r + left M k ≤ allocated M h + span M k + 2
-  cycle-short {i} s m r e = omega (arith, begin-left s m, run-lowers r e)
+  pub cycle-spent : {h i k : Abs} → Sound M h → Begin M h i → (r : Run M i k) → begins r ≡ 0 → 1 + units r + left M k ≤ allocated M h + span M k + 2
+  cycle-spent {i} s m r e = omega (arith, begin-left s m, run-lowers r e)
 
   pub cycle-most : {h i k : Abs} → Sound M h → Begin M h i → (r : Run M i k) → begins r ≡ 0 → 1 + units r ≤ allocated M h + M + 2
-  cycle-most {k = k} s m r e = omega (arith, cycle-short s m r e, span-most M k)
+  cycle-most {k = k} s m r e = omega (arith, cycle-spent s m r e, span-most M k)
 
   pub cycle-exact : {h i k : Abs} → Begin M h i → (r : Run M i k) → begins r ≡ 0 → k .phase ≡ idle → 1 + units r ≡ 2 + marks r + span M k
   cycle-exact {i = i} {k} m r e z = omega (arith, run-ahead r e, ahead-marking M i (m .after), ahead-idle M k z)
 
   -- so at most every block that was allocated at the beginning is marked
   pub marks-few : {h i k : Abs} → Sound M h → Begin M h i → (r : Run M i k) → begins r ≡ 0 → k .phase ≡ idle → marks r ≤ allocated M h
-  marks-few s m r e z = omega (arith, cycle-short s m r e, cycle-exact m r e z)
+  marks-few s m r e z = omega (arith, cycle-spent s m r e, cycle-exact m r e z)
+
+pub cycle-short : CycleShort
+cycle-short = record { counted = all-blocks; most = cycle-most; exact = cycle-exact; marked = marks-few }

@@ -1,51 +1,27 @@
 -- Room is never wanting: with a steady pace of units for each block taken, the heap doesn't fill up.
---     Event M U B h k      some units, and then moves of the running program that take at most B blocks, with U units for each of them
---     Session M U B K h k  events from h to k, after each of which at most K blocks are reachable
---     Settled M K h        idle, with at most K blocks allocated, as on a fresh heap
---     fresh-settled        a fresh heap is so
+--     fresh-settled        a fresh heap is Settled
 --     Account M U B K h    what is known between two events
 --     settled-account, event-account, session-account     it is known at the start, after an event, after a session
---     enough-room          once the units for n blocks are done, n blocks are free
---     room-margin          after every event at least M - K - 2N - (B - 1) blocks are free
--- N is any number with 2M + 2 ≤ U * N, and enough-room asks for K + 2N + B - 1 ≤ M. With B = 1, as for single blocks: K + 2N ≤ M, and at least
--- M - K - 2N are free. Two neighbouring cycles together have at most 4M + 4 units, and so take at most 2N + B - 1 blocks.
+--     enough-room, room-margin     the statements EnoughRoom and RoomMargin
+-- Two neighbouring cycles together have at most 4M + 4 units, and so take at most 2N + B - 1 blocks.
 -- Assumes nothing.
 use Prim.Native.Nat.{ℕ, _+_, _*_, _≤_, _<_}
 use mathlib.Core.Path.{_≡_}
-use mathlib.Core.Logic.{_≢_}
-use mathlib.Core.List.{List, []}
+use mathlib.Core.List.{[]}
 use native.Mathlib.Omega.{arith}
 use native.Mathlib.Nat.{mul-le-mul-left}
 use lib.ListN.{length}
-use Rattle.theory_reach.specs.Splits.{by-le}
 use Rattle.theory_reach.specs.Sums.{Block}
-use Rattle.theory_reach.specs.Listed.{In}
+use Rattle.theory_reach.proofs.Splits.{by-le}
 use Rattle.theory_moves.specs.Tints.{Free}
-use Rattle.theory_moves.specs.Heaps.{Abs, idle, Sound, span-most, reached-live}
-use Rattle.theory_moves.specs.Runs.{Run, units, taken, ProperRun, OnlyUnits, run-sound}
-use Rattle.theory_moves.specs.Bounds.{allocated, unused, all-blocks, left-idle}
-use Rattle.theory_moves.specs.Taking.{Few, allocated-in}
-use Rattle.theory_moves.specs.Ledger.{Ledger, less-ledger, work-ledger, act-ledger}
-
-pub record Event (M U B : ℕ) (h k : Abs) : Type 0 where
-  pub between : Abs
-  pub work : Run M h between
-  pub only : OnlyUnits work
-  pub acts : Run M between k
-  pub still : units acts ≡ 0
-  pub proper : ProperRun acts
-  pub most : length (taken acts) ≤ B
-  pub pace : U * length (taken acts) ≤ units work
-
-pub data Session (M U B K : ℕ) : Abs → Abs → Type 0 where
-  over : {h : Abs} → Session M U B K h h
-  next : {h i k : Abs} → Event M U B h i → Few K i → Session M U B K i k → Session M U B K h k
-
-pub record Settled (M K : ℕ) (h : Abs) : Type 0 where
-  pub phase : h .phase ≡ idle
-  pub list : List ℕ
-  pub short : length list ≤ K
-  pub has : (g : ℕ) → Block M g → h .tint g ≢ Free → In g list
+use Rattle.theory_moves.specs.Heaps.{Abs, idle, Sound}
+use Rattle.theory_moves.specs.Runs.{taken}
+use Rattle.theory_moves.specs.Demand3.{Event, Session, over, next, Settled, allocated, Few, EnoughRoom, RoomMargin}
+use Rattle.theory_moves.proofs.Heaps.{span-most, reached-live}
+use Rattle.theory_moves.proofs.Runs.{run-sound}
+use Rattle.theory_moves.proofs.Bounds.{all-blocks, left-idle}
+use Rattle.theory_moves.proofs.Taking.{allocated-in}
+use Rattle.theory_moves.proofs.Ledger.{Ledger, less-ledger, work-ledger, act-ledger}
 
 -- what is known between two events
 pub record Account (M U B K : ℕ) (h : Abs) : Type 0 where
@@ -112,13 +88,13 @@ module _ (M U B K N : ℕ) (large : 2 * M + 2 ≤ U * N) where
       let f : b .earlier + b .taken + n < 2 * N + B = factor U _ _ (omega (arith, b .both, b .short, span-most M h, large)) in
       omega (arith, b .room)
 
-  pub enough-room : {h k : Abs} (i : Abs) → Sound M h → Settled M K h → Session M U B K h k → (r : Run M k i) → OnlyUnits r → (n : ℕ) → n ≤ B → U * n ≤ units r → K + 2 * N + B ≤ M + 1 → n ≤ unused M i
-  enough-room i s f e r o n m p q =
-      let a = session-account (settled-account s f) e in
-      let b = work-ledger (U * n) (a .sound) (a .few) (a .ledger) r o (omega arith) (mul-le-mul-left U m) in
-      omega (arith, ledger-room n i b, all-blocks M i)
+pub enough-room : EnoughRoom
+enough-room M U B K N h k i large s f e r o n m p q =
+    let a = session-account (settled-account s f) e in
+    let b = work-ledger (U * n) (a .sound) (a .few) (a .ledger) r o (omega arith) (mul-le-mul-left U m) in
+    omega (arith, ledger-room M U B K N large n i b, all-blocks M i)
 
-  pub room-margin : {h : Abs} (k : Abs) → Sound M h → Settled M K h → Session M U B K h k → M + 1 ≤ unused M k + K + 2 * N + B
-  room-margin k s f e =
-      let a = session-account (settled-account s f) e in
-      omega (arith, ledger-room 0 k (less-ledger (U * 0) (a .ledger) (omega arith)), all-blocks M k)
+pub room-margin : RoomMargin
+room-margin M U B K N h k large s f e =
+    let a = session-account (settled-account s f) e in
+    omega (arith, ledger-room M U B K N large 0 k (less-ledger (U * 0) (a .ledger) (omega arith)), all-blocks M k)

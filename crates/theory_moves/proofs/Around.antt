@@ -4,6 +4,7 @@
 --     cycle-frees          a block that waits is freed by the end of the running cycle
 --     once-around          a block allocated and out of reach on an idle heap is freed by the end of the next cycle
 --     twice-around         whatever the phase, it is freed by the second end of a cycle
+--     garbage-waits        the statement GarbageWaits
 -- In the terms of Garbage: whatever is reachable afterwards is in the set Inside of the heap before. No cycle has to be cut out of the run here:
 -- it is enough that the run has the ends of cycles in it.
 -- Assumes nothing.
@@ -11,18 +12,23 @@ use Prim.Native.Nat.{ℕ, _≤_}
 use mathlib.Core.Path.{_≡_, refl, sym, _∙_, subst}
 use mathlib.Core.Logic.{_≢_}
 use native.Mathlib.Omega.{arith}
-use Rattle.theory_reach.specs.Splits.{never, by-eq}
+use Rattle.theory_reach.specs.Reaching.{at-root, along}
 use Rattle.theory_reach.specs.Sums.{Block}
-use Rattle.theory_reach.specs.Reaching.{at-root, along, reach-closed}
-use Rattle.theory_moves.specs.Tints.{Free, by-free}
+use Rattle.theory_reach.proofs.Splits.{never, by-eq}
+use Rattle.theory_reach.proofs.Reaching.{reach-closed}
+use Rattle.theory_moves.specs.Tints.{Free}
 use Rattle.theory_moves.specs.Heaps.{Abs, idle, named, ref, Reached, Live, Sound}
 use Rattle.theory_moves.specs.Moves.{Move, begin, mark, turn, sweep, writeNumber, writeRef, setRoot, takeHeld, takeRoot}
-use Rattle.theory_moves.specs.Kinds.{begun, ended, begins?, ended-idle, ended-one}
-use Rattle.theory_moves.specs.Mutating.{Mutation, number-mutation, ref-mutation, root-mutation, held-mutation, taken-mutation}
-use Rattle.theory_moves.specs.Soundness.{move-sound}
-use Rattle.theory_moves.specs.Safety.{unit-back}
-use Rattle.theory_moves.specs.Runs.{Run, rest, step, ends, Proper, ProperRun, FreedIn, frees-now, freed-later}
-use Rattle.theory_moves.specs.Garbage.{Waiting, Inside, begin-waits, waits-on, waits-kept, waits-not}
+use Rattle.theory_moves.specs.Kinds.{begun, ended}
+use Rattle.theory_moves.specs.Runs.{Run, rest, step, ends, Proper, ProperRun, FreedIn, freed-later}
+use Rattle.theory_moves.specs.Demand2.{GarbageWaits}
+use Rattle.theory_moves.proofs.Tints.{by-free}
+use Rattle.theory_moves.proofs.ByKind.{begins?, ended-idle, ended-one}
+use Rattle.theory_moves.proofs.Runs.{frees-now}
+use Rattle.theory_moves.proofs.Mutating.{Mutation, number-mutation, ref-mutation, root-mutation, held-mutation, taken-mutation}
+use Rattle.theory_moves.proofs.Soundness.{move-sound}
+use Rattle.theory_moves.proofs.Safety.{unit-back}
+use Rattle.theory_moves.proofs.Garbage.{Waiting, Inside, begin-waits, waits-on, waits-kept, waits-not}
 
 -- a block of Inside names only such blocks
 inside-names : {M : ℕ} {h : Abs} → Sound M h → (b w x : ℕ) → Block M b → Inside h b → ref h b w ≡ x → x ≢ 0 → Reached h x
@@ -126,3 +132,6 @@ module _ {M g : ℕ} (l : Block M g) where
       by-eq (ended m) 0
       (λ z. freed-later m (twice-around (move-sound s m) a′ n′ r (p .1) (omega arith)))
       (λ z. freed-later m (once-around (move-sound s m) (ended-idle m z) a′ n′ r (p .1) (λ y. omega (arith, ended-one m)))))
+
+pub garbage-waits : GarbageWaits
+garbage-waits = record { stays = stays-out; once = once-around; twice = twice-around }

@@ -11,8 +11,8 @@ use mathlib.Core.Path.{_≡_, refl, sym, _∙_}
 use mathlib.Core.Logic.{_≢_}
 use mathlib.Core.Bool.{Bool, true, false}
 use native.Mathlib.Omega.{arith}
-use Rattle.theory_reach.specs.Splits.{never, by-eq}
 use Rattle.theory_reach.specs.Sums.{Block}
+use Rattle.theory_reach.proofs.Splits.{never, by-eq}
 use Rattle.theory_moves.specs.Tints.{Tint, White, Grey, Free, Turned, turned, stayed}
 use Rattle.theory_moves.specs.Heaps.{Abs, marking, sweeping, named, ref, Live}
 use Rattle.theory_moves.specs.Moves.{SameCells, Steady, Holds, WriteNumber, Barred, WriteRef, SetRoot, Fresh, newMarking, newAhead, newBehind, newIdle, Taken, TakeHeld, TakeRoot}

@@ -3,11 +3,11 @@
 --     freed-doomed         a move frees only a doomed block
 --     live-kept            no move frees a live block
 --     reached-kept         no move frees a reachable block
---     SameCell h k b w     word w of b and its reference bit are as they were
 --     cells-kept           a live block's words and reference bits stay, but for the one that the move writes
 --     reached-cells        so of a reachable block's
 --     taken-unreached      a block that is taken was out of reach
 --     unit-cells, unit-root, unit-over, unit-back     a unit changes no live block's cells, no root, no reachability
+--     nothing-lost         the statement NothingLost
 -- A reachable block is live, and a live block isn't doomed. A block that is taken was free, and so not live.
 -- Assumes nothing.
 use Prim.Native.Nat.{ℕ}
@@ -16,16 +16,19 @@ use mathlib.Core.Logic.{_≢_}
 use mathlib.Core.Bool.{Bool}
 use native.Mathlib.Omega.{arith}
 use mathlib.Core.List.{List·Memᴰ·eq-of-singleton}
-use Rattle.theory_reach.specs.Splits.{never, by-eq}
-use Rattle.theory_reach.specs.Listed.{In}
 use Rattle.theory_reach.specs.Sums.{Block}
-use Rattle.theory_reach.specs.Reaching.{reach-over, reach-back}
-use Rattle.theory_moves.specs.Tints.{Free, was-free}
-use Rattle.theory_moves.specs.Heaps.{Abs, ref, Reached, Doomed, Live, Sound, reached-live}
+use Rattle.theory_reach.specs.Listed.{In}
+use Rattle.theory_reach.proofs.Splits.{never, by-eq}
+use Rattle.theory_reach.proofs.Reaching.{reach-over, reach-back}
+use Rattle.theory_moves.specs.Tints.{Free}
+use Rattle.theory_moves.specs.Heaps.{Abs, ref, Reached, Doomed, Live, Sound}
 use Rattle.theory_moves.specs.Moves.{SameCells, Holds, Mark, Swept, freeing, whitening, passing, Sweep, Move, begin, mark, turn, sweep, writeNumber, writeRef, setRoot, takeHeld, takeRoot}
-use Rattle.theory_moves.specs.Mutating.{Mutation, same-ref, tinted-free, number-mutation, ref-mutation, root-mutation, held-mutation, taken-mutation}
-use Rattle.theory_moves.specs.Soundness.{sweep-cells}
 use Rattle.theory_moves.specs.Kinds.{cost, At, Writes, taking}
+use Rattle.theory_moves.specs.Demand2.{SameCell, NothingLost}
+use Rattle.theory_moves.proofs.Tints.{was-free}
+use Rattle.theory_moves.proofs.Heaps.{reached-live}
+use Rattle.theory_moves.proofs.Mutating.{Mutation, same-ref, tinted-free, number-mutation, ref-mutation, root-mutation, held-mutation, taken-mutation}
+use Rattle.theory_moves.proofs.Soundness.{sweep-cells}
 
 module _ {M : ℕ} {h k : Abs} where
   sweep-doomed : Sweep M h k → (c : ℕ) → Block M c → h .tint c ≢ Free → k .tint c ≡ Free → Doomed h c
@@ -61,11 +64,6 @@ module _ {M : ℕ} {h k : Abs} where
 
   pub reached-kept : Sound M h → Move M h k → {x : ℕ} → Reached h x → k .tint x ≢ Free
   reached-kept s m r = live-kept m (reached-live s r)
-
--- one cell as it was
-pub record SameCell (h k : Abs) (b w : ℕ) : Type 0 where
-  pub word : k .word b w ≡ h .word b w
-  pub bit : k .isRef b w ≡ h .isRef b w
 
 cell : {h k : Abs} {b : ℕ} → SameCells h k b → (w : ℕ) → SameCell h k b w
 cell s w = record { word = s .words w; bit = s .bits w }
@@ -140,3 +138,16 @@ module _ {M : ℕ} {h k : Abs} (s : Sound M h) (m : Move M h k) (e : cost m ≡ 
 
   pub unit-back : {x : ℕ} → Reached k x → Reached h x
   unit-back = reach-back (h .root) (k .root) (ref h) (ref k) (unit-root m e) agree
+
+pub nothing-lost : NothingLost
+nothing-lost =
+    record {
+      live = reached-live;
+      kept = reached-kept;
+      same = reached-cells;
+      taken = taken-unreached;
+      root = unit-root;
+      cells = unit-cells;
+      over = unit-over;
+      back = unit-back;
+    }

@@ -1,6 +1,5 @@
 -- How many blocks are allocated, along moves; and which, at a cycle's end.
---     Few K h              a list of at most K numbers in which each reachable block occurs
---     few-over             a unit leaves it so
+--     few-over             a unit leaves at most K blocks reachable
 --     allocated-in         if every allocated block is in a list, they are at most as many as it is long
 --     allocated-most       at most M blocks are allocated
 --     move-stands          only a take raises the number of allocated blocks, and by one
@@ -15,22 +14,21 @@ use mathlib.Core.Logic.{_≢_}
 use mathlib.Core.List.{List, [], _∷_, _++_, List·Memᴰ·head}
 use native.Mathlib.Omega.{arith}
 use lib.ListN.{length}
-use Rattle.theory_reach.specs.Splits.{never, by-eq}
-use Rattle.theory_reach.specs.Sums.{Block, total-le, total-down}
-use Rattle.theory_reach.specs.Listed.{In, in?, in-left, in-right, pigeonhole}
-use Rattle.theory_moves.specs.Tints.{Tint, White, Grey, Black, Free, Turned, turned, stayed, by-free, stays-free}
-use Rattle.theory_moves.specs.Heaps.{Abs, idle, Reached, Sound}
+use Rattle.theory_reach.specs.Sums.{Block}
+use Rattle.theory_reach.specs.Listed.{In}
+use Rattle.theory_reach.proofs.Splits.{never, by-eq}
+use Rattle.theory_reach.proofs.Sums.{total-le, total-down}
+use Rattle.theory_reach.proofs.Listed.{in?, in-left, in-right, pigeonhole}
+use Rattle.theory_moves.specs.Tints.{Tint, White, Grey, Black, Free, Turned, turned, stayed}
+use Rattle.theory_moves.specs.Heaps.{Abs, idle, Sound}
 use Rattle.theory_moves.specs.Moves.{Begin, Mark, Swept, freeing, whitening, passing, Sweep, Taken, Move, begin, mark, turn, sweep, writeNumber, writeRef, setRoot, takeHeld, takeRoot}
-use Rattle.theory_moves.specs.Safety.{unit-back}
-use Rattle.theory_moves.specs.Runs.{taken, Proper}
-use Rattle.theory_moves.specs.Garbage.{Waiting, Inside, begin-waits, waits-on, waits-not}
-use Rattle.theory_moves.specs.Bounds.{stands, allocated, all-blocks}
 use Rattle.theory_moves.specs.Kinds.{cost, begun, taking}
-
-pub record Few (K : ℕ) (h : Abs) : Type 0 where
-  pub list : List ℕ
-  pub short : length list ≤ K
-  pub has : (x : ℕ) → Reached h x → In x list
+use Rattle.theory_moves.specs.Runs.{taken, Proper}
+use Rattle.theory_moves.specs.Demand3.{Few, stands, allocated}
+use Rattle.theory_moves.proofs.Tints.{by-free, stays-free}
+use Rattle.theory_moves.proofs.Safety.{unit-back}
+use Rattle.theory_moves.proofs.Garbage.{Waiting, Inside, begin-waits, waits-on, waits-not}
+use Rattle.theory_moves.proofs.Bounds.{all-blocks}
 
 -- whatever the cycle still has to free waits for it, but for the blocks of a list
 pub record Cover (M : ℕ) (S : ℕ → Type 0) (l : List ℕ) (h : Abs) : Type 0 where

@@ -12,14 +12,15 @@ use mathlib.Core.Path.{_≡_, refl, sym}
 use mathlib.Core.Logic.{_≢_, _⊎_, inl, inr}
 use mathlib.Core.Bool.{false}
 use native.Mathlib.Omega.{arith}
-use Rattle.theory_reach.specs.Splits.{never}
 use Rattle.theory_reach.specs.Sums.{Block}
-use Rattle.theory_reach.specs.Reaching.{reach-closed}
+use Rattle.theory_reach.proofs.Splits.{never}
+use Rattle.theory_reach.proofs.Reaching.{reach-closed}
 use Rattle.theory_moves.specs.Tints.{Tint, White, Grey, Black, Free, turned, stayed}
-use Rattle.theory_moves.specs.Heaps.{Abs, named, ref, span, Reached, Sound, off-sweep}
+use Rattle.theory_moves.specs.Heaps.{Abs, named, ref, span, Reached, Sound}
 use Rattle.theory_moves.specs.Moves.{SameCells, Begin, Mark, Turn, freeing, whitening, ending, Sweep, SetRoot, mark, turn, sweep, setRoot}
 use Rattle.theory_moves.specs.Runs.{Run, rest, step, units, marks, begins, ProperRun, FreedIn, freed-now, freed-later}
-use Rattle.theory_moves.specs.Garbage.{garbage-goes}
+use Rattle.theory_moves.proofs.Heaps.{off-sweep}
+use Rattle.theory_moves.proofs.Garbage.{garbage-goes}
 
 abbrev pub small : ℕ → ℕ → ℕ → Tint → Abs
 small p q r t =
@@ -126,7 +127,7 @@ plain = step (turn (turning 0 White (λ z. never (cc)))) (step (sweep clearing) 
 
 pub plain-freed : FreedIn 1 2 (small 1 0 0 White) (small 0 0 0 Free) plain
 plain-freed =
-    garbage-goes small-sound started block (λ z. never (cc)) (out-of-reach 0 0 White) plain refl
+    garbage-goes 1 2 (small 0 0 0 White) (small 1 0 0 White) (small 0 0 0 Free) small-sound started block (λ z. never (cc)) (out-of-reach 0 0 White) plain refl
     ((λ z. absurd (z refl)), ((λ z. absurd (z refl)), tt))
     refl
 

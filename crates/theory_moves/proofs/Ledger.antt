@@ -15,15 +15,18 @@ use mathlib.Core.Path.{_≡_}
 use mathlib.Core.List.{List, _++_}
 use native.Mathlib.Omega.{arith}
 use lib.ListN.{length, length-append}
-use Rattle.theory_reach.specs.Splits.{by-le}
-use Rattle.theory_moves.specs.Heaps.{Abs, Sound, span, span-most}
+use Rattle.theory_reach.proofs.Splits.{by-le}
+use Rattle.theory_moves.specs.Heaps.{Abs, Sound, span}
 use Rattle.theory_moves.specs.Moves.{Begin, Move, begin}
-use Rattle.theory_moves.specs.Soundness.{move-sound}
+use Rattle.theory_moves.specs.Kinds.{cost, begun, taking}
 use Rattle.theory_moves.specs.Runs.{Run, rest, step, units, taken, Proper, ProperRun, OnlyUnits}
-use Rattle.theory_moves.specs.Garbage.{Inside}
-use Rattle.theory_moves.specs.Bounds.{allocated, left, move-lowers, begin-left}
-use Rattle.theory_moves.specs.Kinds.{cost, begun, taking, begins?, unit-none, begun-cost}
-use Rattle.theory_moves.specs.Taking.{Few, Cover, few-over, move-stands, cover-on, cover-begin, cover-end, allocated-most}
+use Rattle.theory_moves.specs.Demand3.{allocated, Few}
+use Rattle.theory_moves.proofs.Heaps.{span-most}
+use Rattle.theory_moves.proofs.ByKind.{begins?, unit-none, begun-cost}
+use Rattle.theory_moves.proofs.Soundness.{move-sound}
+use Rattle.theory_moves.proofs.Garbage.{Inside}
+use Rattle.theory_moves.proofs.Bounds.{left, move-lowers, begin-left}
+use Rattle.theory_moves.proofs.Taking.{Cover, few-over, move-stands, cover-on, cover-begin, cover-end, allocated-most}
 
 pub record Ledger (M U B K credit : ℕ) (h : Abs) : Type 0 where
   pub start : Abs

@@ -1,0 +1,26 @@
+-- All that document 01's calls compute with, opened by one name.
+--     the-machine          `unfolding the-machine` opens every definition below, for a proof that computes calls on a heap given whole
+-- A definition that such a proof has to compute with belongs on this line, and on no other.
+-- Assumes nothing.
+use Rattle.machine.specs.Tests.{_▷_}
+use Rattle.machine.specs.Block.{isBlock, eightWords, withEight, bit, withBit, withoutBit, referencesFrom}
+use Rattle.machine.specs.Colouring.{colour, greyWhite, greyAll, isAllocated, headLegal}
+use Rattle.machine.specs.Standing.{doomedWhite, standing, standingOf, holderRefusal, targetRefusal}
+use Rattle.machine.specs.Entry.{numbersFit, lengthsFit, fits, isBlockOrNone, positionLegal, legal, entry, wordRefusal, holderPlace, targetPlace}
+use Rattle.machine.specs.Answers.{unless}
+use Rattle.machine.specs.OneUnit.{step, metBlock, metWord, begun, marked, allSound, turned, advance, reclaimed, whitened, passed, act, unit}
+use Rattle.machine.specs.Units.{run}
+use Rattle.machine.specs.Format.{freeList, formatted, format}
+use Rattle.machine.specs.Read.{readRefusal, readAnswer, read}
+use Rattle.machine.specs.Store.{barrier, putNumber, putReference, storeNumber, storeRefusal, storeReference, rootRefusal, setRoot}
+use Rattle.machine.specs.Allocate.{unitsDue, firstFits, listRefusal, newColour, taken, held, takeRefusal, allocated, allocate}
+use Rattle.machine.specs.Work.{countRefusal, work}
+use Rattle.machine.specs.Session.{does, session, lastOf}
+
+unfoldable pub the-machine : Unit {0}
+unfolding _▷_ isBlock eightWords withEight bit withBit withoutBit referencesFrom colour greyWhite greyAll isAllocated headLegal
+    doomedWhite standing standingOf holderRefusal targetRefusal numbersFit lengthsFit fits isBlockOrNone positionLegal legal entry wordRefusal holderPlace targetPlace unless
+    step metBlock metWord begun marked allSound turned advance reclaimed whitened passed act unit run
+    freeList formatted format readRefusal readAnswer read barrier putNumber putReference storeNumber storeRefusal storeReference rootRefusal setRoot
+    unitsDue firstFits listRefusal newColour taken held takeRefusal allocated allocate countRefusal work does session lastOf
+the-machine = tt
