@@ -234,7 +234,7 @@ static uint32_t field(void)
 {
     if (one_in(64))
         return one_in(2) ? 1790 + below(4) : odd();
-    return one_in(8) ? below(1792) : below(30);
+    return one_in(8) ? below(1792) : below(one_in(2) ? 7 : 30);
 }
 
 static uint32_t drawn(enum kind kind)
