@@ -1,6 +1,6 @@
 # make            proves the library and makes the archive target/staticlib/libdergamoyne.a (minutes, the first time)
 # make check      tests it from C
-# make example    builds examples/c/list.c to target/c/list and runs it
+# make example    builds examples/c/list.c and objects.c to target/c and runs them
 # make install    puts headers, archive, pkg-config file and manual page under PREFIX (by default /usr/local), below DESTDIR where one is
 #                 given
 # make uninstall  takes them away again
@@ -25,7 +25,8 @@ check: $(archive)
 	bash tests/c/run
 
 example: $(archive)
-	bash examples/c/run
+	bash examples/c/run list
+	bash examples/c/run objects
 
 target/dergamoyne.pc: docs/dergamoyne.pc.in include/dergamoyne.h Makefile
 	mkdir -p target
