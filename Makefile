@@ -1,6 +1,6 @@
 # make            proves the library and builds the archive target/staticlib/libdergamoyne.a (the first time it takes minutes)
 # make check      tests the library from C
-# make example    builds examples/c/list.c as target/c/list and runs it
+# make example    builds examples/c/list.c and examples/c/objects.c in target/c and runs them
 # make install    installs headers, archive, pkg-config file and manual page under PREFIX (/usr/local unless you set it); DESTDIR is put
 #                 before it
 # make uninstall  removes them again
@@ -25,7 +25,8 @@ check: $(archive)
 	bash tests/c/run
 
 example: $(archive)
-	bash examples/c/run
+	bash examples/c/run list
+	bash examples/c/run objects
 
 target/dergamoyne.pc: docs/dergamoyne.pc.in include/dergamoyne.h Makefile
 	mkdir -p target

@@ -290,6 +290,45 @@ static void dear(uint32_t whites)
     allocate(2, 0);
 }
 
+/* ---- objects ---- */
+
+/* An object of n blocks at pace 1 while free blocks are swept: what the larger n adds is a block and such a unit each. */
+static void chaining(uint32_t n)
+{
+    fresh(1);
+    r.phase = SWEEPING;
+    r.position = 2;
+    audit();
+    measure("chain", n);
+    after(CALL(allocate_chain, &r, LENT, 0, 0, n).refusal);
+}
+
+/* Each call on field k of the object at the root, under these names. */
+static void field_measures(const char *read_name, const char *number_name, const char *reference_name, uint32_t k)
+{
+    measure(read_name, 0);
+    after(CALL(read_field, MACHINE_SEEN(r), LENT, r.root, k).refusal);
+    measure(number_name, 0);
+    after(CALL(store_field_number, &r, LENT, r.root, k, 5).refusal);
+    measure(reference_name, 0);
+    after(CALL(store_field_reference, &r, LENT, r.root, k, r.root).refusal);
+}
+
+static void object_measures(void)
+{
+    chaining(50);
+    chaining(100);
+    fresh(1);
+    after(CALL(allocate_chain, &r, LENT, 0, 0, 256).refusal);
+    audit();
+    field_measures("read-field-6", "store-field-number-6", "store-field-reference-6", 6);
+    field_measures("read-field-7", "store-field-number-7", "store-field-reference-7", 7);
+    field_measures("read-field-70", "store-field-number-70", "store-field-reference-70", 70);
+    field_measures("read-field-1791", "store-field-number-1791", "store-field-reference-1791", 1791);
+    prepare();
+    audit();
+}
+
 /* ---- calls of linear cost ---- */
 
 static void linear_measures(void)
@@ -321,6 +360,7 @@ static void calls(uint32_t size)
     steady("allocate-10", 10);
     for (uint32_t whites = 1; whites <= 8; whites++)
         dear(whites);
+    object_measures();
     linear_measures();
 }
 

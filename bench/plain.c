@@ -1,19 +1,9 @@
-/* The block machine of document 01 in plain C, every test in: its calls, the audit and the export apart. See plain.h. */
-#include "plain_layout.h"
+/* The block machine of document 01 in plain C, every test in: its calls, the audit and the export apart; and the allocation of
+   chained objects. See plain.h. */
+#include "plain_words.h"
 #include <string.h>
 
 /* ---- refusals ---- */
-
-/* 8 for a colour outside the layout, `gone` for a block that is free or doomed, else 0. */
-static uint32_t standing(const struct plain_regs *r, const uint32_t *colours, uint32_t b, uint32_t gone)
-{
-    uint32_t word = colours[b - 2];
-    if (word == FREE)
-        return gone;
-    if (word == WHITE)
-        return r->phase == SWEEPING && b >= r->position ? gone : 0;
-    return word == BLACK || is_grey(r->blocks, word) ? 0 : 8;
-}
 
 /* The refusal of a call that reads or writes a number at word w of the block b: 1, 2, 3, 8, 5 or 0. */
 static uint32_t word_refusal(const struct plain_regs *r, size_t words_length, const uint32_t *colours, size_t colours_length,
@@ -25,11 +15,6 @@ static uint32_t word_refusal(const struct plain_regs *r, size_t words_length, co
     if (!is_block(r->blocks, b) || w > 7)
         return 3;
     return standing(r, colours, b, 5);
-}
-
-static struct plain_answer answered(uint32_t refusal, uint32_t value, uint32_t units)
-{
-    return (struct plain_answer){refusal, value, units};
 }
 
 /* ---- the calls that do no units ---- */
@@ -71,27 +56,6 @@ struct plain_answer plain_store_number(struct plain_regs *r, PLAIN_LENT, uint32_
     words[8 * (size_t)(b - 2) + w] = v;
     bytes[b - 2] &= ~(1u << w);
     return answered(0, 0, 0);
-}
-
-/* Puts a block at the front of the grey list. */
-static void grey(struct plain_regs *r, uint32_t *colours, uint32_t b)
-{
-    colours[b - 2] = r->grey;
-    r->grey = b;
-}
-
-/* While marking, a white target is greyed. */
-static void barrier(struct plain_regs *r, uint32_t *colours, uint32_t t)
-{
-    if (r->phase == MARKING && t != 0 && colours[t - 2] == WHITE)
-        grey(r, colours, t);
-}
-
-/* The word becomes a reference to t. */
-static void put_reference(uint32_t *words, uint8_t *bytes, uint32_t b, uint32_t w, uint32_t t)
-{
-    words[8 * (size_t)(b - 2) + w] = t;
-    bytes[b - 2] |= 1u << w;
 }
 
 struct plain_answer plain_store_reference(struct plain_regs *r, PLAIN_LENT, uint32_t b, uint32_t w, uint32_t t)
@@ -301,6 +265,88 @@ struct plain_answer plain_allocate(struct plain_regs *r, PLAIN_LENT, uint32_t b,
     if (e)
         return answered(e, 0, done);
     uint32_t x = take(r, words, colours);
+    if (b == 0)
+        r->root = x;
+    else
+        put_reference(words, bytes, b, w, x);
+    return answered(0, x, done);
+}
+
+/* ---- Allocate chain ---- */
+
+enum { LINK = 7, MOST_CHAIN = 256 };
+
+/* Of a free list that has so many blocks by its count: 8 where it ends before the nth, or a block up to it is not coloured free or
+   has a link that is neither 0 nor a block, else 0, and *last is the nth. */
+static uint32_t walk_free(const struct plain_regs *r, const uint32_t *words, const uint32_t *colours, uint32_t n, uint32_t *last)
+{
+    uint32_t b = r->free;
+    for (uint32_t i = 1; b != 0 && colours[b - 2] == FREE; i++) {
+        uint32_t link = words[8 * (size_t)(b - 2)];
+        if (!is_block_or_none(r->blocks, link))
+            return 8;
+        if (i == n) {
+            *last = b;
+            return 0;
+        }
+        b = link;
+    }
+    return 8;
+}
+
+/* 7 or 8 where no n blocks can be taken, else 0. The first n of a list are all different exactly where the nth is none of the
+   earlier ones. */
+static uint32_t chain_refusal(const struct plain_regs *r, const uint32_t *words, const uint32_t *colours, uint32_t n)
+{
+    uint32_t last;
+    if ((r->free == 0) != (r->count == 0))
+        return 8;
+    if (r->count < n)
+        return 7;
+    if (walk_free(r, words, colours, n, &last))
+        return 8;
+    for (uint32_t i = 1, b = r->free; i < n; i++, b = words[8 * (size_t)(b - 2)])
+        if (b == last)
+            return 8;
+    return 0;
+}
+
+/* Takes the first n free blocks, each naming the next by its word 7, and answers the first. */
+static uint32_t take_chain(struct plain_regs *r, uint32_t *words, uint32_t *colours, uint8_t *bytes, uint32_t n)
+{
+    uint32_t first = r->free, b = first;
+    uint32_t black_from = r->phase == MARKING ? 0 : r->phase == SWEEPING ? r->position : UINT32_MAX;
+    r->count -= n;
+    for (;; n--) {
+        uint32_t *part = words + 8 * (size_t)(b - 2), next = part[0];
+        part[0] = 0;
+        part[LINK] = n == 1 ? 0 : next;
+        bytes[b - 2] |= 1u << LINK;
+        colours[b - 2] = b >= black_from ? BLACK : WHITE;
+        if (n == 1) {
+            r->free = next;
+            return first;
+        }
+        b = next;
+    }
+}
+
+struct plain_answer plain_allocate_chain(struct plain_regs *r, PLAIN_LENT, uint32_t b, uint32_t w, uint32_t n)
+{
+    uint32_t e = entry(r, words_length, colours_length, bytes_length);
+    if (e)
+        return answered(e, 0, 0);
+    if ((b == 0 ? w != 0 : !is_block(r->blocks, b) || w > 7) || n == 0 || n > MOST_CHAIN)
+        return answered(3, 0, 0);
+    uint32_t due = n * units_due(r), done = run(r, words, colours, bytes, due);
+    if (done != due)
+        return answered(8, 0, done);
+    e = b == 0 ? 0 : standing(r, colours, b, 5);
+    if (e == 0)
+        e = chain_refusal(r, words, colours, n);
+    if (e)
+        return answered(e, 0, done);
+    uint32_t x = take_chain(r, words, colours, bytes, n);
     if (b == 0)
         r->root = x;
     else

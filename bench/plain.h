@@ -47,5 +47,9 @@ struct plain_answer plain_work(struct plain_regs *r, PLAIN_LENT, uint32_t n);
 struct plain_answer plain_audit(const struct plain_regs *r, PLAIN_SEEN);
 struct plain_export_answer plain_export(const struct plain_regs *r, PLAIN_SEEN, uint32_t *out, size_t out_length, uint32_t start,
                                         uint32_t link);
+struct plain_answer plain_allocate_chain(struct plain_regs *r, PLAIN_LENT, uint32_t b, uint32_t w, uint32_t n);
+struct plain_read_answer plain_read_field(const struct plain_regs *r, PLAIN_SEEN, uint32_t b, uint32_t k);
+struct plain_answer plain_store_field_number(struct plain_regs *r, PLAIN_LENT, uint32_t b, uint32_t k, uint32_t v);
+struct plain_answer plain_store_field_reference(struct plain_regs *r, PLAIN_LENT, uint32_t b, uint32_t k, uint32_t t);
 
 #endif

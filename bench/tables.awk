@@ -47,6 +47,16 @@ function size_row(text, measure) {
     printf "| %s | %s | %s | %s |\n", text, shown(value("proved", measure, 1024)), shown(value("proved", measure, 4096)), shown(value("proved", measure, 16384))
 }
 
+# What a block adds to Allocate chain, less the unit that it pays for. It does not depend on M.
+function chain_row(machine, text) {
+    printf "| %s | %s | %s | %s |\n", text, shown(value(machine, "chain", 1024)), shown(value(machine, "sweeping-free", 1024)), shown(value(machine, "chain", 1024) - value(machine, "sweeping-free", 1024))
+}
+
+# A call on field k, and what each block walked adds: from field 6, in the first block, to 1,791, in the 256th.
+function field_row(machine, text, measure) {
+    printf "| %s | %s | %s | %s | %s | %s |\n", text, shown(value(machine, measure "-6", 1024)), shown(value(machine, measure "-7", 1024)), shown(value(machine, measure "-70", 1024)), shown(value(machine, measure "-1791", 1024)), shown((value(machine, measure "-1791", 1024) - value(machine, measure "-6", 1024)) / 255)
+}
+
 # In microseconds, at 3 GHz.
 function time(n) { return sprintf("%.2f to %.2f", n / 9000, n / 6000) }
 
@@ -91,6 +101,20 @@ END {
     print "|---|---:|---:|---:|---:|"
     worst_row("Proved", "proved")
     worst_row("Plain C", "plain")
+
+    print "\n### Objects longer than a block, M = 1,024\n"
+    print "| Instructions of Allocate chain | Each block, with its unit | The unit: sweeping a free block | Each block beyond its unit |"
+    print "|---|---:|---:|---:|"
+    chain_row("proved", "Proved")
+    chain_row("plain", "Plain C")
+    print "\n| Instructions, by the field | k = 6 | k = 7 | k = 70 | k = 1,791 | Each block walked |"
+    print "|---|---:|---:|---:|---:|---:|"
+    field_row("proved", "Read field, proved", "read-field")
+    field_row("plain", "Read field, plain C", "read-field")
+    field_row("proved", "Store field number, proved", "store-field-number")
+    field_row("plain", "Store field number, plain C", "store-field-number")
+    field_row("proved", "Store field reference, proved", "store-field-reference")
+    field_row("plain", "Store field reference, plain C", "store-field-reference")
 
     print "\n### With the size of the heap, proved\n"
     print "| Instructions | M = 1,024 | M = 4,096 | M = 16,384 |"

@@ -23,10 +23,10 @@ def N(M, U):
     return -((2 * M + 2) // -U)
 
 
-def smallest(K, U):
-    """The smallest M with K + 2N at most M, or None if no heap has it."""
+def smallest(K, U, B=1):
+    """The smallest M with K + 2N + B - 1 at most M, or None if no heap has it."""
     for M in range(K + 2, LARGEST + 1):
-        if K + 2 * N(M, U) <= M:
+        if K + 2 * N(M, U) + B - 1 <= M:
             return M
     return None
 
@@ -137,9 +137,23 @@ def tables():
                                         for U in [*paces, 1000, 32770]) + " |")
 
 
+def object_table():
+    """Rows that are objects of B blocks, so many of them held at once."""
+    paces = [6, 8, 10, 16, 20, 50, 100]
+    print("| B | rows held | K | " + " | ".join(f"U = {U}" for U in paces) + " |")
+    print("|" + "---:|" * (len(paces) + 3))
+    for B, counts in [(2, [100, 1000, 3072]), (10, [10, 100, 600]), (256, [1, 4, 16, 24, 32])]:
+        for rows in counts:
+            cells = [smallest(rows * B, U, B) for U in paces]
+            print(f"| {B} | {rows:,} | {rows * B:,} | "
+                  + " | ".join(f"{M:,}" if M else "none" for M in cells) + " |")
+
+
 def main():
     if sys.argv[1:] == ["table"]:
         tables()
+        print()
+        object_table()
         return
     here = os.path.dirname(os.path.abspath(__file__))
     with open(os.path.join(here, "sizing.svg"), "w", encoding="ascii", newline="\n") as file:

@@ -32,6 +32,10 @@
    for. U is the pace, 0 to 65,535; with pace 0 an Allocate does more units the fewer blocks are free. docs/SIZING.md says how to
    choose M and U.
 
+   What doesn't fit a block goes into an object: a chain of 1 to 256 blocks. Words 0 to 6 of each hold fields, and word 7 is the
+   reference to the next block, null in the last. So an object of n blocks has the fields 0 to 7n - 1, 1,791 at most: field k
+   stands in block k/7 of the chain, word k mod 7. An object goes by the number of its first block. docs/OBJECTS.md shows one.
+
    Keeping a block's number in a variable does not keep the block: store a reference to it. A block that can no longer be reached
    is freed some time later. When the collector is about to free it, the block is called doomed. From then on every call that
    names it is refused, until the block is allocated again. After that its number means the new block.
@@ -106,8 +110,8 @@
    that Format made and only calls have changed, it is proved that nothing that can be reached is lost and that no call answers 8.
 
    This header, the way in which C passes arguments and results, and the compilers are not proved. They are tested. tests/c makes
-   more than 60,000 calls through this header, also on damaged heaps and with wrong lengths. It compares every answer with a
-   second model's, and the whole heap after 25,000 of them. tests/fuzz compares millions of calls with the same machine in
+   more than 70,000 calls through this header, also on damaged heaps and with wrong lengths. It compares every answer with a
+   second model's, and the whole heap after 35,000 of them. tests/fuzz compares millions of calls with the same machine in
    plain C. */
 #ifndef DERGAMOYNE_H
 #define DERGAMOYNE_H
@@ -116,8 +120,8 @@
 #include <stdint.h>
 
 /* The version: 1,000,000 for each major, 1,000 for each minor, 1 for each patch. */
-#define DERGAMOYNE_VERSION 1000u
-#define DERGAMOYNE_VERSION_TEXT "0.1.0"
+#define DERGAMOYNE_VERSION 2000u
+#define DERGAMOYNE_VERSION_TEXT "0.2.0"
 
 /* Marks a function whose answer must not be ignored: the compiler warns if it is. */
 #ifndef DERGAMOYNE_MUST_USE
@@ -138,14 +142,17 @@ enum {
     DERGAMOYNE_MOST_BLOCKS = 16384, /* the largest M */
     DERGAMOYNE_MOST_PACE = 65535,   /* the largest U */
     DERGAMOYNE_MOST_UNITS = 65535,  /* the largest n of Work */
-    DERGAMOYNE_BLOCK_WORDS = 8      /* the words of a block */
+    DERGAMOYNE_BLOCK_WORDS = 8,     /* the words of a block */
+    DERGAMOYNE_BLOCK_FIELDS = 7,    /* the fields in a block of an object; the word after them is the link */
+    DERGAMOYNE_OBJECT_BLOCKS = 256, /* the most blocks of an object */
+    DERGAMOYNE_OBJECT_FIELDS = 1792 /* the most fields of an object */
 };
 
 /* The index that a refused Look answers: past the end of every word buffer. */
 #define DERGAMOYNE_NO_INDEX 4294967295u
 
 /* REFUSALS, in the order in which they are tested. A refused call has the value 0 and changes nothing, neither the record nor a
-   buffer, with one exception: Work and Allocate do units before some of their tests. The units that they finished before the
+   buffer, with one exception: Work, Allocate and Allocate chain do units before some of their tests. The units that they finished before the
    refusal stay done and are counted in the answer. With 1, 2, 9, 3 and 4 there are none. */
 enum dergamoyne_refusal {
     DERGAMOYNE_DONE = 0,           /* not refused */
@@ -154,14 +161,16 @@ enum dergamoyne_refusal {
                                       zeroes, never formatted, is refused by 1 */
     DERGAMOYNE_REGISTERS = 2,      /* the record is not legal: something else has written to it. Format doesn't test this */
     DERGAMOYNE_TOO_MANY_UNITS = 9, /* Work: n is above 65,535 */
-    DERGAMOYNE_NO_SUCH_WORD = 3,   /* the block is not 2 to M + 1, or the word is above 7. Allocate also accepts block 0, but
-                                      only with word 0 */
+    DERGAMOYNE_NO_SUCH_WORD = 3,   /* the block is not 2 to M + 1, or the word is above 7. Allocate and Allocate chain also take
+                                      block 0, but only with word 0. Allocate chain: n is not 1 to 256. Of fields: k is above
+                                      1,791; and, tested on the way after 4, the object has no such field, since a word 7 that
+                                      has to be followed is null or a number */
     DERGAMOYNE_NO_SUCH_TARGET = 4, /* the target is neither 0 nor 2 to M + 1 */
     DERGAMOYNE_DAMAGE = 8,         /* the call met a colour or a link that can't be: something else has written to the
                                       buffers */
     DERGAMOYNE_BLOCK_GONE = 5,     /* the block to read or write is free or doomed */
     DERGAMOYNE_TARGET_GONE = 6,    /* the target is free or doomed */
-    DERGAMOYNE_NO_FREE_BLOCK = 7,  /* Allocate: no block is free */
+    DERGAMOYNE_NO_FREE_BLOCK = 7,  /* Allocate: no block is free. Allocate chain: fewer than n are */
 
     /* Only dergamoyne_heap.h returns these. The library itself never answers them. */
     DERGAMOYNE_NO_MEMORY = 100,      /* there is no memory for the heap */
@@ -188,7 +197,7 @@ struct dergamoyne_answer {
     uint32_t refusal, value, units;
 };
 
-/* What Read answers: the same, and reference, which is 1 if the word holds a reference, else 0. The units are 0. */
+/* What Read and Read field answer: the same, and reference, which is 1 if the word holds a reference, else 0. The units are 0. */
 struct dergamoyne_read_answer {
     uint32_t refusal, value, units, reference;
 };
@@ -268,6 +277,37 @@ DERGAMOYNE_MUST_USE struct dergamoyne_answer dergamoyne_store_reference(
 DERGAMOYNE_MUST_USE struct dergamoyne_look_answer dergamoyne_look(
     struct dergamoyne_regs regs, const uint32_t *words, size_t words_length, const uint32_t *colours,
     size_t colours_length, const uint8_t *bytes, size_t bytes_length, uint32_t b);
+
+
+/* OBJECTS. The cost of Allocate chain besides its units goes with n; that of a field with the blocks up to it. */
+
+/* Allocate chain: n times the units of Allocate (with pace 0, n times what Allocate would do at this moment), then the first n
+   free blocks become an object, all of them or none, and a reference to its first block is stored: in word w of the block b, or
+   with b and w 0 as the root. The value is the first block. Every field is the number 0; each word 7 is the reference to the
+   next block, null in the last. What was in the word, or was the root, is replaced: with w 7 and a block of an object, the rest
+   of that object. Refusals: 1, 2; 3 also for n not 1 to 256; then, after the units, 8 and 5 for b; 7 where fewer than n blocks
+   are free; 8 where the free list is damaged. */
+DERGAMOYNE_MUST_USE struct dergamoyne_answer dergamoyne_allocate_chain(
+    struct dergamoyne_regs *regs, uint32_t *words, size_t words_length, uint32_t *colours, size_t colours_length,
+    uint8_t *bytes, size_t bytes_length, uint32_t b, uint32_t w, uint32_t n);
+
+/* Read field: the value is field k of the object b, and reference says whether it is one. The object is walked from its first
+   block to the one with the field. Refusals: 1, 2; 3 for the block or for k above 1,791; then of each block walked 8, 5, and
+   where it isn't the last, 3 for a word 7 that is null or a number, 8 for one that names no block. It changes nothing. */
+DERGAMOYNE_MUST_USE struct dergamoyne_read_answer dergamoyne_read_field(
+    struct dergamoyne_regs regs, const uint32_t *words, size_t words_length, const uint32_t *colours,
+    size_t colours_length, const uint8_t *bytes, size_t bytes_length, uint32_t b, uint32_t k);
+
+/* Store field number: field k of the object b becomes the number v. The record stays as it is. Refusals: those of Read field. */
+DERGAMOYNE_MUST_USE struct dergamoyne_answer dergamoyne_store_field_number(
+    struct dergamoyne_regs *regs, uint32_t *words, size_t words_length, uint32_t *colours, size_t colours_length,
+    uint8_t *bytes, size_t bytes_length, uint32_t b, uint32_t k, uint32_t v);
+
+/* Store field reference: field k of the object b becomes a reference to the block t, or with t 0 the reference to none. The
+   collector sees to it that t is kept. Refusals: those of Read field, 4 before the walk; 8 and 6 for t after it. */
+DERGAMOYNE_MUST_USE struct dergamoyne_answer dergamoyne_store_field_reference(
+    struct dergamoyne_regs *regs, uint32_t *words, size_t words_length, uint32_t *colours, size_t colours_length,
+    uint8_t *bytes, size_t bytes_length, uint32_t b, uint32_t k, uint32_t t);
 
 
 /* CALLS FOR NOW AND THEN */

@@ -12,7 +12,7 @@
        dergamoyne_heap_close(&heap);
 
    dergamoyne.h explains the terms (block, word, reference, root, unit), what is promised, and what you have to ensure.
-   examples/c/list.c is a program that uses most of this.
+   examples/c/list.c is a program that uses most of this, examples/c/objects.c one with objects longer than a block.
 
    HOW IT GUARDS AGAINST MISTAKES
 
@@ -20,6 +20,7 @@
      to out parameters, which a refusal leaves alone.
    - A 0 can't be mistaken for a block. A new root and a new block, a reference and the null reference, setting the root and
      clearing it each have their own function. A holder 0 is refused by 3, a target 0 by 4.
+   - An object is held by a field of another, so its holder's links stay as they are.
    - An export that is not complete gives no number of rows.
    - Opening a heap tests that this header and the library have the same version. */
 #ifndef DERGAMOYNE_HEAP_H
@@ -58,7 +59,7 @@ static inline const char *dergamoyne_refusal_text(uint32_t refusal)
     case DERGAMOYNE_REGISTERS:
         return "the register record is not legal";
     case DERGAMOYNE_NO_SUCH_WORD:
-        return "there is no such block or word";
+        return "there is no such block, word or field";
     case DERGAMOYNE_NO_SUCH_TARGET:
         return "there is no such target";
     case DERGAMOYNE_BLOCK_GONE:
@@ -66,7 +67,7 @@ static inline const char *dergamoyne_refusal_text(uint32_t refusal)
     case DERGAMOYNE_TARGET_GONE:
         return "the target is free or about to be freed";
     case DERGAMOYNE_NO_FREE_BLOCK:
-        return "no block is free";
+        return "too few blocks are free";
     case DERGAMOYNE_DAMAGE:
         return "the heap is damaged";
     case DERGAMOYNE_TOO_MANY_UNITS:
@@ -288,6 +289,124 @@ DERGAMOYNE_REFUSABLE dergamoyne_heap_clear_root(struct dergamoyne_heap *h)
 }
 
 
+/* OBJECTS, of 1 to 256 blocks. An object goes by the number of its first block; one of n blocks has the fields 0 to 7n - 1. Every
+   field of a new object is the number 0. Refusals of a new object: 1, 2, 3; 8, 5, 7. Of a field: 1, 2, 3, 8, 5; of a target
+   besides 4, 6. 3 also says that the object has no such field. */
+
+/* How many blocks an object of so many fields takes: 7 fields a block, and one block at least. */
+static inline uint32_t dergamoyne_object_blocks(uint32_t fields)
+{
+    return fields == 0 ? 1 : (fields - 1) / DERGAMOYNE_BLOCK_FIELDS + 1;
+}
+
+/* Allocate chain with these numbers; the object goes to *object where it isn't refused. */
+DERGAMOYNE_REFUSABLE dergamoyne_heap_allocate_chain_(struct dergamoyne_heap *h, uint32_t holder, uint32_t word, uint32_t blocks,
+                                                     uint32_t *object)
+{
+    struct dergamoyne_answer a = dergamoyne_allocate_chain(&h->regs, DERGAMOYNE_LENT, holder, word, blocks);
+    if (a.refusal == DERGAMOYNE_DONE)
+        *object = a.value;
+    return (enum dergamoyne_refusal)a.refusal;
+}
+
+/* The block of an object that has the field. */
+DERGAMOYNE_REFUSABLE dergamoyne_heap_block_of_field_(const struct dergamoyne_heap *h, uint32_t object, uint32_t field,
+                                                     uint32_t *block)
+{
+    uint32_t at = object;
+    if (field >= DERGAMOYNE_OBJECT_FIELDS)
+        return DERGAMOYNE_NO_SUCH_WORD;
+    for (; field >= DERGAMOYNE_BLOCK_FIELDS; field -= DERGAMOYNE_BLOCK_FIELDS) {
+        struct dergamoyne_read_answer a = dergamoyne_read(h->regs, DERGAMOYNE_LENT, at, DERGAMOYNE_BLOCK_FIELDS);
+        if (a.refusal != DERGAMOYNE_DONE)
+            return (enum dergamoyne_refusal)a.refusal;
+        if (!a.reference || a.value == 0)
+            return DERGAMOYNE_NO_SUCH_WORD;
+        at = a.value;
+    }
+    *block = at;
+    return DERGAMOYNE_DONE;
+}
+
+/* A new object that is the root. What only the old root reached is let go. */
+DERGAMOYNE_REFUSABLE dergamoyne_heap_new_root_object(struct dergamoyne_heap *h, uint32_t blocks, uint32_t *object)
+{
+    return dergamoyne_heap_allocate_chain_(h, 0, 0, blocks, object);
+}
+
+/* A new object, held by field `field` of the object `holder`. A block of document 01 is an object of its words 0 to 6 too. */
+DERGAMOYNE_REFUSABLE dergamoyne_heap_new_object(struct dergamoyne_heap *h, uint32_t holder, uint32_t field, uint32_t blocks,
+                                                uint32_t *object)
+{
+    enum dergamoyne_refusal refusal = DERGAMOYNE_NO_SUCH_WORD;
+    uint32_t block = 0;
+    if (holder != 0)
+        refusal = dergamoyne_heap_block_of_field_(h, holder, field, &block);
+    if (refusal == DERGAMOYNE_DONE)
+        refusal = dergamoyne_heap_allocate_chain_(h, block, field % DERGAMOYNE_BLOCK_FIELDS, blocks, object);
+    return refusal;
+}
+
+/* The value of a field, and whether it is a reference: 1 or 0. */
+DERGAMOYNE_REFUSABLE dergamoyne_heap_read_field(const struct dergamoyne_heap *h, uint32_t object, uint32_t field,
+                                                uint32_t *value, int *reference)
+{
+    struct dergamoyne_read_answer a = dergamoyne_read_field(h->regs, DERGAMOYNE_LENT, object, field);
+    if (a.refusal == DERGAMOYNE_DONE) {
+        *value = a.value;
+        *reference = (int)a.reference;
+    }
+    return (enum dergamoyne_refusal)a.refusal;
+}
+
+/* A number. Refused by 102 where the field holds a reference. */
+DERGAMOYNE_REFUSABLE dergamoyne_heap_read_field_number(const struct dergamoyne_heap *h, uint32_t object, uint32_t field,
+                                                       uint32_t *number)
+{
+    struct dergamoyne_read_answer a = dergamoyne_read_field(h->regs, DERGAMOYNE_LENT, object, field);
+    if (a.refusal != DERGAMOYNE_DONE)
+        return (enum dergamoyne_refusal)a.refusal;
+    if (a.reference)
+        return DERGAMOYNE_NOT_A_NUMBER;
+    *number = a.value;
+    return DERGAMOYNE_DONE;
+}
+
+/* What a reference names, 0 for the null reference. Refused by 103 where the field holds a number. */
+DERGAMOYNE_REFUSABLE dergamoyne_heap_read_field_reference(const struct dergamoyne_heap *h, uint32_t object, uint32_t field,
+                                                          uint32_t *target)
+{
+    struct dergamoyne_read_answer a = dergamoyne_read_field(h->regs, DERGAMOYNE_LENT, object, field);
+    if (a.refusal != DERGAMOYNE_DONE)
+        return (enum dergamoyne_refusal)a.refusal;
+    if (!a.reference)
+        return DERGAMOYNE_NOT_A_REFERENCE;
+    *target = a.value;
+    return DERGAMOYNE_DONE;
+}
+
+DERGAMOYNE_REFUSABLE dergamoyne_heap_store_field_number(struct dergamoyne_heap *h, uint32_t object, uint32_t field,
+                                                        uint32_t number)
+{
+    return (enum dergamoyne_refusal)dergamoyne_store_field_number(&h->regs, DERGAMOYNE_LENT, object, field, number).refusal;
+}
+
+/* The field becomes a reference to the block or object `target`. */
+DERGAMOYNE_REFUSABLE dergamoyne_heap_store_field_reference(struct dergamoyne_heap *h, uint32_t object, uint32_t field,
+                                                           uint32_t target)
+{
+    if (target == 0)
+        return DERGAMOYNE_NO_SUCH_TARGET;
+    return (enum dergamoyne_refusal)dergamoyne_store_field_reference(&h->regs, DERGAMOYNE_LENT, object, field, target).refusal;
+}
+
+/* The field becomes the null reference. */
+DERGAMOYNE_REFUSABLE dergamoyne_heap_store_field_null(struct dergamoyne_heap *h, uint32_t object, uint32_t field)
+{
+    return (enum dergamoyne_refusal)dergamoyne_store_field_reference(&h->regs, DERGAMOYNE_LENT, object, field, 0).refusal;
+}
+
+
 /* LISTS. In a list each block names the next in the same word, `link`. The null reference ends the list. */
 
 /* A new block, which becomes the root. Its word `link` is the null reference, so it is a list of one row. */
@@ -317,6 +436,35 @@ DERGAMOYNE_REFUSABLE dergamoyne_heap_new_row(struct dergamoyne_heap *h, uint32_t
         refusal = dergamoyne_heap_store_null(h, block, link);
     if (refusal == DERGAMOYNE_DONE)
         *row = block;
+    return refusal;
+}
+
+/* The same with an object of so many blocks for a row, whose field `link` is the null reference: as the root. */
+DERGAMOYNE_REFUSABLE dergamoyne_heap_first_row_object(struct dergamoyne_heap *h, uint32_t blocks, uint32_t link, uint32_t *row)
+{
+    enum dergamoyne_refusal refusal = DERGAMOYNE_NO_SUCH_WORD;
+    uint32_t object = 0;
+    if (link / DERGAMOYNE_BLOCK_FIELDS < blocks)
+        refusal = dergamoyne_heap_new_root_object(h, blocks, &object);
+    if (refusal == DERGAMOYNE_DONE)
+        refusal = dergamoyne_heap_store_field_null(h, object, link);
+    if (refusal == DERGAMOYNE_DONE)
+        *row = object;
+    return refusal;
+}
+
+/* The same, held by field `field` of the object `holder`: with the last row and its link field it is the list's next row. */
+DERGAMOYNE_REFUSABLE dergamoyne_heap_new_row_object(struct dergamoyne_heap *h, uint32_t holder, uint32_t field, uint32_t blocks,
+                                                    uint32_t link, uint32_t *row)
+{
+    enum dergamoyne_refusal refusal = DERGAMOYNE_NO_SUCH_WORD;
+    uint32_t object = 0;
+    if (link / DERGAMOYNE_BLOCK_FIELDS < blocks)
+        refusal = dergamoyne_heap_new_object(h, holder, field, blocks, &object);
+    if (refusal == DERGAMOYNE_DONE)
+        refusal = dergamoyne_heap_store_field_null(h, object, link);
+    if (refusal == DERGAMOYNE_DONE)
+        *row = object;
     return refusal;
 }
 

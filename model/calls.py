@@ -1,7 +1,7 @@
 """Cases of the exported calls with what comes of them, for tests/c/cases.c.
 
 python3 model/calls.py prints those stored in tests/c/cases.txt;
-python3 model/calls.py SEED COUNT prints COUNT * 30 drawn from SEED.
+python3 model/calls.py SEED COUNT prints COUNT * 40 drawn from SEED.
 
 A case is two lines, before the call and after it:
 
@@ -13,11 +13,15 @@ the order of its struct in include/dergamoyne.h. `out` is the further buffer of
 a call that takes one, else of length 0. A new call is a line of CALLS.
 """
 
+import itertools
 import random
 import sys
 
+import chain_cases
+import chains
 import damage
 import draw
+import draw_chains
 import exports
 import machine
 import probe
@@ -32,19 +36,15 @@ def look(h, out, block):
     return machine.read(h, block, 0)[0], part[0] if len(part) else TOP
 
 
-def read(h, out, block, word):
-    refusal, value, units, reference = machine.read(h, block, word)
-    return refusal, value, units, 1 if reference else 0
-
-
 def plain(call):
-    """A call that takes no further buffer."""
-    return lambda h, out, *numbers: call(h, *numbers)
+    """A call that takes no further buffer. Whether a word is a reference is
+    answered by 1 or 0."""
+    return lambda h, out, *numbers: [int(part) for part in call(h, *numbers)]
 
 
 CALLS = {
     "format": plain(machine.format),
-    "read": read,
+    "read": plain(machine.read),
     "look": look,
     "store_number": plain(machine.store_number),
     "store_reference": plain(machine.store_reference),
@@ -53,6 +53,10 @@ CALLS = {
     "work": plain(machine.work),
     "audit": plain(machine.audit),
     "export": exports.export,
+    "allocate_chain": plain(chains.allocate_chain),
+    "read_field": plain(chains.read_field),
+    "store_field_number": plain(chains.store_field_number),
+    "store_field_reference": plain(chains.store_field_reference),
 }
 
 # The letters by which heapprobe's cases name the calls of document 01.
@@ -130,6 +134,12 @@ def drawn(rng, count):
             yield export_case(rng)
 
 
+def drawn_chains(rng, count):
+    """Ten calls on chained objects, so many times."""
+    for _ in range(10 * count):
+        yield case(*draw_chains.case(rng))
+
+
 def stored():
     """Those worked out by hand, and a few drawn."""
     for _, letter, numbers, h, _ in damage.cases():
@@ -137,12 +147,16 @@ def stored():
     for _, h, room, start, link, _ in exports.by_hand():
         yield case("export", [start, link], h, [7777] * room)
     yield from drawn(random.Random(103), 10)
+    for _, name, numbers, h, _ in chain_cases.cases():
+        yield case(name, numbers, h)
+    yield from drawn_chains(random.Random(104), 12)
 
 
 def main(arguments):
     if arguments:
         seed, count = arguments
-        found = drawn(random.Random(f"calls {seed}"), int(count))
+        found = itertools.chain(drawn(random.Random(f"calls {seed}"), int(count)),
+                                drawn_chains(random.Random(f"chains {seed}"), int(count)))
     else:
         found = stored()
     sys.stdout.writelines(found)

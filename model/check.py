@@ -413,9 +413,9 @@ TESTS = [hand_checked_cases, the_listing, rules_of_lines, cases_by_hand, exports
          damaged_heaps, drawn_heaps, long_runs, room_enough, room_enough_exhaustive]
 
 
-def main():
+def main(tests):
     failed = 0
-    for test in TESTS:
+    for test in tests:
         start = time.time()
         name = test.__name__.replace("_", " ")
         try:
@@ -424,9 +424,9 @@ def main():
         except AssertionError as error:
             failed += 1
             print(f"FAILED  {name}: {error}")
-    print(f"{len(TESTS) - failed} passed, {failed} failed")
+    print(f"{len(tests) - failed} passed, {failed} failed")
     return 1 if failed else 0
 
 
 if __name__ == "__main__":
-    sys.exit(main())
+    sys.exit(main(TESTS))

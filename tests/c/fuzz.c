@@ -221,6 +221,22 @@ static uint32_t units(void)
     return one_in(2) ? below(4) : below(2 * blocks() + 6);
 }
 
+/* How many blocks an object is to have: few as a rule, at times all that are free, or about that. */
+static uint32_t length(void)
+{
+    if (one_in(64))
+        return one_in(2) ? 255 + below(3) : odd();
+    return one_in(8) ? regs()->count + below(2) : 1 + below(5);
+}
+
+/* A field of an object: in its first blocks as a rule. */
+static uint32_t field(void)
+{
+    if (one_in(64))
+        return one_in(2) ? 1790 + below(4) : odd();
+    return one_in(8) ? below(1792) : below(one_in(2) ? 7 : 30);
+}
+
 static uint32_t drawn(enum kind kind)
 {
     switch (kind) {
@@ -241,6 +257,10 @@ static uint32_t drawn(enum kind kind)
         return regs()->root == 0 || one_in(32) ? 0 : block();
     case UNITS:
         return units();
+    case LENGTH:
+        return length();
+    case FIELD:
+        return field();
     default:
         return 0;
     }

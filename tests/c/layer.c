@@ -136,6 +136,75 @@ static void small_heap(void)
     dergamoyne_heap_close(&h);
 }
 
+/* ---- objects ---- */
+
+/* What must not be taken for something else. The heap has three blocks left. */
+static void object_refusals(struct dergamoyne_heap *h, uint32_t row)
+{
+    uint32_t object = UNTOUCHED;
+    struct dergamoyne_regs before = h->regs;
+    expect(dergamoyne_heap_new_object(h, 0, 0, 2, &object) == DERGAMOYNE_NO_SUCH_WORD, "no holder of an object");
+    expect(dergamoyne_heap_new_object(h, 0, 7, 2, &object) == DERGAMOYNE_NO_SUCH_WORD, "no holder, a later field");
+    expect(dergamoyne_heap_new_object(h, row, 21, 2, &object) == DERGAMOYNE_NO_SUCH_WORD, "no such field of the holder");
+    expect(dergamoyne_heap_new_object(h, row, 1792, 2, &object) == DERGAMOYNE_NO_SUCH_WORD, "no such field at all");
+    expect(dergamoyne_heap_new_object(h, row, 0, 0, &object) == DERGAMOYNE_NO_SUCH_WORD, "no blocks");
+    expect(dergamoyne_heap_new_object(h, row, 0, 257, &object) == DERGAMOYNE_NO_SUCH_WORD, "too many blocks");
+    expect(dergamoyne_heap_new_root_object(h, 257, &object) == DERGAMOYNE_NO_SUCH_WORD, "too many blocks for the root");
+    expect(dergamoyne_heap_new_row_object(h, row, 0, 2, 14, &object) == DERGAMOYNE_NO_SUCH_WORD, "no such link field");
+    expect(dergamoyne_heap_new_row_object(h, 0, 0, 2, 0, &object) == DERGAMOYNE_NO_SUCH_WORD, "no holder of a row");
+    expect(dergamoyne_heap_first_row_object(h, 2, 14, &object) == DERGAMOYNE_NO_SUCH_WORD, "no such link field of a first row");
+    expect(dergamoyne_heap_store_field_reference(h, row, 3, 0) == DERGAMOYNE_NO_SUCH_TARGET, "no target of a field");
+    expect(memcmp(&before, &h->regs, sizeof before) == 0, "none of these changes the record");
+    expect(dergamoyne_heap_new_object(h, row, 0, 4, &object) == DERGAMOYNE_NO_FREE_BLOCK, "too few blocks are free");
+    expect(object == UNTOUCHED, "a refusal leaves the object alone");
+}
+
+static void fields(struct dergamoyne_heap *h, uint32_t row)
+{
+    uint32_t value = UNTOUCHED;
+    int reference = 7777;
+    for (uint32_t k = 0; k < 21; k++)
+        expect(dergamoyne_heap_read_field(h, row, k, &value, &reference) == DERGAMOYNE_DONE && value == 0 && reference == (k == 20),
+               "a fresh field: the link, 20, is the null reference, the others are the number 0");
+    value = UNTOUCHED;
+    expect(dergamoyne_heap_read_field(h, row, 21, &value, &reference) == DERGAMOYNE_NO_SUCH_WORD && value == UNTOUCHED, "no field 21");
+    for (uint32_t k = 0; k < 20; k++)
+        expect(dergamoyne_heap_store_field_number(h, row, k, 100 + k) == DERGAMOYNE_DONE, "a number");
+    for (uint32_t k = 0; k < 20; k++)
+        expect(dergamoyne_heap_read_field_number(h, row, k, &value) == DERGAMOYNE_DONE && value == 100 + k, "the number");
+    expect(dergamoyne_heap_read_field_reference(h, row, 20, &value) == DERGAMOYNE_DONE && value == 0, "the link");
+    expect(dergamoyne_heap_read_field_number(h, row, 20, &value) == DERGAMOYNE_NOT_A_NUMBER, "no number");
+    expect(dergamoyne_heap_read_field_reference(h, row, 19, &value) == DERGAMOYNE_NOT_A_REFERENCE, "no reference");
+    expect(dergamoyne_heap_read_number(h, row + 2, 5, &value) == DERGAMOYNE_DONE && value == 119, "field 19 is word 5 of the third block");
+    expect(dergamoyne_heap_store_field_reference(h, row, 6, row) == DERGAMOYNE_DONE, "a reference");
+    expect(dergamoyne_heap_read_field_reference(h, row, 6, &value) == DERGAMOYNE_DONE && value == row, "the reference");
+    expect(dergamoyne_heap_store_field_null(h, row, 6) == DERGAMOYNE_DONE, "the null reference");
+    expect(dergamoyne_heap_read_field_reference(h, row, 6, &value) == DERGAMOYNE_DONE && value == 0, "it is read");
+}
+
+/* A heap of six blocks: a row of 21 fields, of which field 20 is the link, and then a second row. */
+static void objects(void)
+{
+    struct dergamoyne_heap h;
+    uint32_t row = 0, second = 0, value = 0;
+    expect(dergamoyne_heap_open(&h, 6, 1) == DERGAMOYNE_DONE, "a heap");
+    expect(dergamoyne_object_blocks(0) == 1 && dergamoyne_object_blocks(7) == 1 && dergamoyne_object_blocks(8) == 2, "blocks");
+    expect(dergamoyne_object_blocks(20) == 3 && dergamoyne_object_blocks(1792) == 256, "blocks of an object");
+    expect(dergamoyne_heap_first_row_object(&h, 3, 20, &row) == DERGAMOYNE_DONE && row == 2, "a row of three blocks");
+    expect(dergamoyne_heap_root(&h) == 2 && dergamoyne_heap_free_blocks(&h) == 3, "it is the root");
+    fields(&h, row);
+    object_refusals(&h, row);
+    expect(dergamoyne_heap_new_row_object(&h, row, 20, 3, 20, &second) == DERGAMOYNE_DONE && second == 5, "the next row");
+    expect(dergamoyne_heap_read_field_reference(&h, row, 20, &value) == DERGAMOYNE_DONE && value == 5, "it is held by the link");
+    expect(dergamoyne_heap_read_field_number(&h, row, 19, &value) == DERGAMOYNE_DONE && value == 119, "the first row is as it was");
+    expect(dergamoyne_heap_check(&h) == DERGAMOYNE_DONE, "it is well-formed");
+    expect(dergamoyne_heap_store_field_null(&h, row, 20) == DERGAMOYNE_DONE, "the second row is let go");
+    expect(dergamoyne_heap_collect(&h) == DERGAMOYNE_DONE && dergamoyne_heap_free_blocks(&h) == 3, "its three blocks are freed");
+    expect(dergamoyne_heap_read_field_number(&h, second, 0, &value) == DERGAMOYNE_BLOCK_GONE, "it is gone");
+    expect(dergamoyne_heap_store_field_reference(&h, row, 0, second) == DERGAMOYNE_TARGET_GONE, "it can't be a target");
+    dergamoyne_heap_close(&h);
+}
+
 /* ---- lists ---- */
 
 /* Exports the list from the root on: a number of rows and the reason; what isn't complete leaves the number alone. */
@@ -225,6 +294,7 @@ int main(void)
     lending();
     resuming();
     small_heap();
+    objects();
     undersized();
     enough();
     texts();

@@ -53,7 +53,7 @@ static void draw(const struct call *c)
     static uint32_t state = 1;
     for (unsigned i = 0; i < c->count; i++) {
         state = state * 1664525u + 1013904223u;
-        numbers[i] = (state >> 16) % (c->numbers[i] == WORD ? 4 : M + 2);
+        numbers[i] = (state >> 16) % (c->numbers[i] == WORD ? 4 : c->numbers[i] == LENGTH ? 6 : M + 2);
     }
     if (c->numbers[0] == BLOCKS)
         numbers[0] = M, numbers[1] = 5;

@@ -40,6 +40,12 @@ changing! {
     set_root = dergamoyne_set_root(t);
     /// Allocate: a new block for word w of the block b, or with 0, 0 for the root.
     allocate = dergamoyne_allocate(b, w);
+    /// Allocate chain: a new object of n blocks, 1 to 256, for word w of the block b, or with 0, 0 for the root.
+    allocate_chain = dergamoyne_allocate_chain(b, w, n);
+    /// Store field number: field k of the object b becomes the number v.
+    store_field_number = dergamoyne_store_field_number(b, k, v);
+    /// Store field reference: field k of the object b becomes a reference to t, or the reference 0.
+    store_field_reference = dergamoyne_store_field_reference(b, k, t);
     /// Work: n units, n at most 65,535.
     work = dergamoyne_work(n);
 }
@@ -47,6 +53,8 @@ changing! {
 seeing! {
     /// Read: word w of the block b, and whether it is a reference.
     read = dergamoyne_read(b, w) -> ReadAnswer;
+    /// Read field: field k of the object b, and whether it is a reference.
+    read_field = dergamoyne_read_field(b, k) -> ReadAnswer;
     /// Look: where the eight words of the block b stand.
     look = dergamoyne_look(b) -> LookAnswer;
     /// Audit: the value is 1 for a well-formed heap, else 0.

@@ -1,6 +1,6 @@
 //! A heap that owns its record and buffers.
 use crate::calls;
-use crate::raw::{Answer, ExportAnswer, Regs};
+use crate::raw::{Answer, ExportAnswer, ReadAnswer, Regs};
 use crate::refusal::{Refusal, Refused};
 
 /// The largest M.
@@ -15,7 +15,7 @@ pub struct Heap {
     bytes: Vec<u8>,
 }
 
-/// A word of a block.
+/// A word of a block, or a field of an object.
 #[derive(Clone, Copy, Debug, PartialEq, Eq)]
 pub enum Word {
     Number(u32),
@@ -23,7 +23,7 @@ pub enum Word {
     Reference(u32),
 }
 
-/// A new block, and the units of collector work that were done before it was taken.
+/// A new block, or the first of a new object, and the units of collector work that were done before it was taken.
 #[derive(Clone, Copy, Debug, PartialEq, Eq)]
 pub struct Allocated {
     pub block: u32,
@@ -82,9 +82,31 @@ impl Heap {
 
     /// Word w of the block b.
     pub fn read(&self, b: u32, w: u32) -> Result<Word, Refused> {
-        let a = calls::read(self.regs, &self.words, &self.colours, &self.bytes, b, w);
-        Refused::unless_zero(a.refusal, a.units)?;
-        Ok(if a.reference == 1 { Word::Reference(a.value) } else { Word::Number(a.value) })
+        word(calls::read(self.regs, &self.words, &self.colours, &self.bytes, b, w))
+    }
+
+    /// A new object of n blocks, 1 to 256, held by word w of the block b; or with 0, 0 the new root. It goes by its first block,
+    /// and has the fields 0 to 7n - 1, each the number 0. With w 7 and a block of an object, the rest of that object is let go.
+    pub fn allocate_chain(&mut self, b: u32, w: u32, n: u32) -> Result<Allocated, Refused> {
+        let a = done(self.changed(|r, ws, cs, bs| calls::allocate_chain(r, ws, cs, bs, b, w, n)))?;
+        Ok(Allocated { block: a.value, units: a.units })
+    }
+
+    /// Field k of the object b.
+    pub fn read_field(&self, b: u32, k: u32) -> Result<Word, Refused> {
+        word(calls::read_field(self.regs, &self.words, &self.colours, &self.bytes, b, k))
+    }
+
+    /// Field k of the object b becomes the number v.
+    pub fn store_field_number(&mut self, b: u32, k: u32, v: u32) -> Result<(), Refused> {
+        done(self.changed(|r, ws, cs, bs| calls::store_field_number(r, ws, cs, bs, b, k, v)))?;
+        Ok(())
+    }
+
+    /// Field k of the object b becomes a reference to the block t, or with 0 the reference to none.
+    pub fn store_field_reference(&mut self, b: u32, k: u32, t: u32) -> Result<(), Refused> {
+        done(self.changed(|r, ws, cs, bs| calls::store_field_reference(r, ws, cs, bs, b, k, t)))?;
+        Ok(())
     }
 
     /// The eight words of the block b, themselves and no copy.
@@ -133,6 +155,12 @@ impl Heap {
 fn done(a: Answer) -> Result<Answer, Refused> {
     Refused::unless_zero(a.refusal, a.units)?;
     Ok(a)
+}
+
+/// The word that was read, or the refusal.
+fn word(a: ReadAnswer) -> Result<Word, Refused> {
+    Refused::unless_zero(a.refusal, a.units)?;
+    Ok(if a.reference == 1 { Word::Reference(a.value) } else { Word::Number(a.value) })
 }
 
 /// An export's answer by its numbers.

@@ -26,7 +26,7 @@ pub struct Answer {
     pub units: u32,
 }
 
-/// What Read answers: reference is 1 for a word that holds a reference, else 0.
+/// What Read and Read field answer: reference is 1 for a word that holds a reference, else 0.
 #[repr(C)]
 #[derive(Clone, Copy, Debug, PartialEq, Eq)]
 pub struct ReadAnswer {
@@ -55,7 +55,7 @@ pub struct ExportAnswer {
 }
 
 /// The version of the library that this crate is for, as `dergamoyne_version` gives it.
-pub const VERSION: u32 = 1000;
+pub const VERSION: u32 = 2000;
 
 // The library is for processors with lengths of 64 bits.
 const _: () = assert!(std::mem::size_of::<usize>() == 8);
@@ -139,6 +139,53 @@ extern "C" {
         bytes_length: usize,
         b: u32,
         w: u32,
+    ) -> Answer;
+    pub fn dergamoyne_allocate_chain(
+        regs: *mut Regs,
+        words: *mut u32,
+        words_length: usize,
+        colours: *mut u32,
+        colours_length: usize,
+        bytes: *mut u8,
+        bytes_length: usize,
+        b: u32,
+        w: u32,
+        n: u32,
+    ) -> Answer;
+    pub fn dergamoyne_read_field(
+        regs: Regs,
+        words: *const u32,
+        words_length: usize,
+        colours: *const u32,
+        colours_length: usize,
+        bytes: *const u8,
+        bytes_length: usize,
+        b: u32,
+        k: u32,
+    ) -> ReadAnswer;
+    pub fn dergamoyne_store_field_number(
+        regs: *mut Regs,
+        words: *mut u32,
+        words_length: usize,
+        colours: *mut u32,
+        colours_length: usize,
+        bytes: *mut u8,
+        bytes_length: usize,
+        b: u32,
+        k: u32,
+        v: u32,
+    ) -> Answer;
+    pub fn dergamoyne_store_field_reference(
+        regs: *mut Regs,
+        words: *mut u32,
+        words_length: usize,
+        colours: *mut u32,
+        colours_length: usize,
+        bytes: *mut u8,
+        bytes_length: usize,
+        b: u32,
+        k: u32,
+        t: u32,
     ) -> Answer;
     pub fn dergamoyne_work(
         regs: *mut Regs,

@@ -35,18 +35,18 @@ impl fmt::Display for Refusal {
         f.write_str(match self {
             Refusal::DoesNotFit => "M, U or a buffer's length doesn't fit",
             Refusal::Registers => "the registers are not legal",
-            Refusal::NoSuchWord => "there is no such block or word",
+            Refusal::NoSuchWord => "there is no such block, word or field",
             Refusal::NoSuchTarget => "there is no such target",
             Refusal::BlockGone => "the block is free or doomed",
             Refusal::TargetGone => "the target is free or doomed",
-            Refusal::NoFreeBlock => "no block is free",
+            Refusal::NoFreeBlock => "too few blocks are free",
             Refusal::Damage => "the heap is damaged",
             Refusal::TooManyUnits => "too many units for one call",
         })
     }
 }
 
-/// A refused call. It changed nothing, except that the units done before the refusal stand; only Work and Allocate have any.
+/// A refused call. It changed nothing, except that the units done before the refusal stand; only Work, Allocate and Allocate chain have any.
 #[derive(Clone, Copy, Debug, PartialEq, Eq)]
 pub struct Refused {
     pub refusal: Refusal,

@@ -1,4 +1,4 @@
-//! Document 01's listing, its refusals, and the export, by `Heap` and by the calls over slices.
+//! Document 01's listing, its refusals, the export, and an object longer than a block, by `Heap` and by the calls over slices.
 use dergamoyne::{calls, Allocated, Exported, Heap, Reason, Refusal, Refused, Regs, Word};
 
 fn by(refusal: Refusal) -> Refused {
@@ -115,6 +115,30 @@ fn exports() {
     assert_eq!(h.export(&mut out, 2, 0), Exported::Stopped(2, Reason::Circle));
 }
 
+/// An object of three blocks: 21 fields, each its own; then one that finds too few blocks free.
+#[test]
+fn objects() {
+    let mut h = Heap::new(6, 1).unwrap();
+    assert_eq!(h.allocate_chain(0, 0, 3), Ok(Allocated { block: 2, units: 3 }));
+    for k in 0..21 {
+        assert_eq!(h.read_field(2, k), Ok(Word::Number(0)));
+        h.store_field_number(2, k, 100 + k).unwrap();
+    }
+    h.store_field_reference(2, 20, 2).unwrap();
+    assert_eq!(h.read_field(2, 19), Ok(Word::Number(119)));
+    assert_eq!(h.read_field(2, 20), Ok(Word::Reference(2)));
+    assert_eq!(h.look(3), Ok(&[107, 108, 109, 110, 111, 112, 113, 4][..]));
+    assert_eq!(h.read_field(2, 21), Err(by(Refusal::NoSuchWord)));
+    assert_eq!(h.read_field(2, 1792), Err(by(Refusal::NoSuchWord)));
+    assert_eq!(h.store_field_number(5, 0, 1), Err(by(Refusal::BlockGone)));
+    assert_eq!(h.store_field_reference(2, 7, 8), Err(by(Refusal::NoSuchTarget)));
+    assert_eq!(h.store_field_reference(2, 7, 5), Err(by(Refusal::TargetGone)));
+    assert_eq!(h.allocate_chain(2, 0, 257), Err(by(Refusal::NoSuchWord)));
+    assert_eq!(h.allocate_chain(2, 0, 4), Err(Refused { refusal: Refusal::NoFreeBlock, units: 4 }));
+    assert_eq!(h.allocate_chain(2, 0, 3), Ok(Allocated { block: 5, units: 3 }));
+    assert!(h.audit());
+}
+
 /// Heaps in different threads don't meet.
 #[test]
 fn threads() {
@@ -138,6 +162,6 @@ fn threads() {
 /// The library is the one that the crate is for.
 #[test]
 fn version() {
-    assert_eq!(calls::version(), 1000);
+    assert_eq!(calls::version(), 2000);
     assert!(calls::fits_library());
 }

@@ -1,0 +1,280 @@
+"""Tests of the calls on chained objects against document 02's request L1 and the
+demands: python3 model/check_chains.py, as model/check.py.
+"""
+
+import random
+import sys
+
+import chain_cases
+import chains
+import check
+import draw
+import draw_chains
+import facts
+import lines
+import machine
+from check import equal, formatted, need
+from machine import BLACK, FREE, WHITE
+
+
+# ------------------------------------------------------------ worked by hand
+
+def words_7(h):
+    return h.words[7::8]
+
+
+def rows_of_20_fields():
+    """Six blocks at pace 1. Three units: a cycle begins, the turn, block 2 is
+    swept, so the position is 3: of 2, 3, 4 the first is white and two are black.
+    Two more sweep 3 and 4; 5 and 6 are then black. Then one block is free."""
+    h = formatted(6, 1)
+    equal(chains.allocate_chain(h, 0, 0, 3), (0, 2, 3), "a chain of three")
+    equal((h.root, h.free_head, h.free_count, h.phase, h.position), (2, 5, 3, 2, 3), "registers")
+    equal(h.colours, [WHITE, BLACK, BLACK, FREE, FREE, FREE], "colours by each block's number")
+    equal(h.words[0::8], [0, 0, 0, 6, 7, 0], "words 0")
+    equal(words_7(h), [3, 4, 0, 0, 0, 0], "words 7")
+    equal(h.bytes, [128, 128, 128, 0, 0, 0], "bits 7")
+    equal(chains.read_field(h, 2, 20), (0, 0, 0, False), "the last field")
+    equal(chains.read_field(h, 2, 21), (3, 0, 0, False), "no field 21")
+    equal(chains.store_field_number(h, 2, 20, 99), (0, 0, 0), "a number in field 20")
+    equal(machine.read(h, 4, 6), (0, 99, 0, False), "it is word 6 of block 4")
+    equal(chains.store_field_reference(h, 2, 7, 4), (0, 0, 0), "a reference in field 7")
+    equal((machine.read(h, 3, 0), h.bytes[1]), ((0, 4, 0, True), 129), "it is word 0 of block 3")
+    equal(chains.allocate_chain(h, 3, 1, 2), (0, 5, 2), "a chain held by field 8")
+    equal((h.colours[3:5], words_7(h)[3:5], h.bytes[1]), ([BLACK, BLACK], [6, 0], 131), "its blocks")
+    equal(chains.read_field(h, 2, 8), (0, 5, 0, True), "field 8")
+    before = machine.copy(h)
+    equal(chains.allocate_chain(h, 2, 0, 2), (7, 0, 2), "one block is free")
+    machine.work(before, 2)
+    need(before == h, "a refused chain leaves more than its units", before, h)
+    equal(machine.audit(h), (0, 1, 0), "well-formed")
+    return "as worked out"
+
+
+def marking_and_pace_0():
+    """Six blocks at pace 0. Six free: 2 units a block, six for three: a cycle
+    begins, the turn, 2 to 5 are swept; 2, 3, 4 lie below position 6, so they
+    are white. Three free: 4 units a block, eight for two: 6 and 7 are swept, a
+    cycle begins, 2, 3, 4 are marked, the turn, 2 is swept; 5 and 6 are black."""
+    h = formatted(6, 0)
+    equal(chains.allocate_chain(h, 0, 0, 3), (0, 2, 6), "six free")
+    equal((h.position, h.colours[:3]), (6, [WHITE] * 3), "below the position")
+    equal(chains.allocate_chain(h, 4, 0, 2), (0, 5, 8), "three free")
+    equal((h.phase, h.position, h.cycle), (2, 3, 2), "registers")
+    equal(h.colours, [WHITE, BLACK, BLACK, BLACK, BLACK, FREE], "colours")
+    h = chain_cases.marking()
+    equal(chains.store_field_reference(h, 2, 1, 4), (0, 0, 0), "a white target")
+    equal((h.colours[:3], h.grey_head), ([BLACK, 1, 3], 4), "it is greyed first")
+    equal((h.words[1], h.bytes[0]), (4, 130), "and then stored")
+    h = chain_cases.dropped()
+    equal(chains.allocate_chain(h, 0, 0, 3), (0, 2, 3), "a block just freed")
+    equal((h.colours, words_7(h)[:4]), ([WHITE, WHITE, BLACK, BLACK, FREE, FREE], [4, 0, 5, 0]), "2, 4, 5")
+    return "as worked out"
+
+
+def cases_by_hand():
+    """Each clause; a refusal leaves its units and nothing else."""
+    count = 0
+    for clause, name, numbers, h, wanted in chain_cases.cases():
+        before = machine.copy(h)
+        got = getattr(chains, name)(h, *numbers)
+        need(got == wanted, f"{clause}: {name} {numbers} gives {got}, wanted {wanted}", before)
+        if got[0]:
+            leaves_its_units(before, h, got, name)
+        count += 1
+    return f"{count} cases"
+
+
+def leaves_its_units(before, h, answer, what):
+    watched = machine.copy(before)
+    for _ in range(answer[2]):
+        need(machine.unit(watched), f"a unit was counted and not done: {what}", before)
+    need(answer[1] == 0 and watched == h, f"{what} {answer} leaves more than its units", before, h)
+
+
+# ------------------------------------------------- watched calls, demand 2
+
+def object_of(h, first):
+    """The blocks of an object, by facts alone."""
+    found = [first]
+    while h.bytes[found[-1] - 2] & 128 and facts.words_of(h, found[-1])[7] and len(found) < 256:
+        found.append(facts.words_of(h, found[-1])[7])
+    return found
+
+
+def watched_chain(h, block, word, n, log):
+    """Allocate chain on a well-formed heap: all n or none, and what is fresh."""
+    before = machine.copy(h)
+    what = f"allocate chain {block} {word} {n}"
+    no, value, units = chains.allocate_chain(h, block, word, n)
+    watched = machine.copy(before)
+    check.watched_units(watched, units, log)
+    if no:
+        need(watched == h, f"more than its units changed: {what}", before, h)
+        need(no in (3, 5, 7), f"{no}: {what}", before, h)
+        need(no != 5 or block not in facts.allocated(watched) - facts.doomed(watched), f"5: {what}", before)
+        need(no != 7 or watched.free_count < n, f"7 and enough are free: {what}", before, h)
+        return
+    taken = object_of(h, value)
+    need(len(taken) == n == len(set(taken)), f"not n blocks: {what}", before, h)
+    need(facts.allocated(h) - facts.allocated(watched) == set(taken), f"other blocks: {what}", before, h)
+    need(h.free_count == watched.free_count - n, f"the count: {what}", before, h)
+    for k in range(7 * n + 2):
+        wanted = (0, 0, 0, False) if k < 7 * n else (3, 0, 0, False)
+        equal(chains.read_field(h, value, k), wanted, f"a fresh field {k}: {what}")
+    held = facts.reachable(watched)
+    for b in held - {block}:
+        need(check.same_block(watched, h, b), f"block {b} changed by {what}", before, h)
+    if block:
+        check.only_that_word(watched, h, block, word, what)
+        need(h.root == watched.root and machine.read(h, block, word)[1] == value, f"the holder: {what}", h)
+
+
+def watched_store(h, name, block, k, x):
+    """A store of a field: it reads back; other words stay."""
+    before = machine.copy(h)
+    what = f"{name} {block} {k} {x}"
+    no = getattr(chains, name)(h, block, k, x)[0]
+    if no:
+        need(h == before, f"a refused {what} changes something", before, h)
+        need(no != 3 or not machine.is_block(h, block) or chains.read_field(h, block, k)[0] == 3, what, h)
+        return
+    at = object_of(before, block)[k // 7]
+    equal(chains.read_field(h, block, k)[1::2], (x, name == chains.store_field_reference.__name__), what)
+    for b in facts.allocated(before):
+        if b == at:
+            check.only_that_word(before, h, b, k % 7, what)
+        else:
+            need(check.same_block(before, h, b), f"block {b} changed by {what}", before, h)
+
+
+def watched_call(h, name, numbers, log):
+    """One call, old or new, with all that demand 2 says of it."""
+    before = machine.copy(h)
+    held = facts.reachable(h)
+    if name == "allocate_chain":
+        watched_chain(h, *numbers, log)
+    elif name == "read_field":
+        no = chains.read_field(h, *numbers)[0]
+        need(h == before and no in (0, 3, 5), f"read field {numbers} answers {no}", before, h)
+    elif name in ("store_field_number", "store_field_reference"):
+        if name == "store_field_reference" and numbers[-1] not in {0} | held and log:
+            log["tame"] = False
+        watched_store(h, name, *numbers)
+    else:
+        check.watched_call(h, name, numbers, log)
+    need(facts.well_formed(h) and machine.audit(h) == (0, 1, 0), f"not well-formed after {name} {numbers}", before, h)
+    for b in held:
+        need(h.colours[b - 2] != FREE, f"reachable block {b} freed by {name} {numbers}", before, h)
+
+
+def sessions():
+    """Random sessions with chains of up to 9 blocks, in all phases."""
+    rng = random.Random(21)
+    done, log = 0, {}
+    for _ in range(60):
+        h, log = formatted(*draw_chains.sizes(rng)), {}
+        for _ in range(60):
+            name, numbers = draw_chains.call(rng, h, tame=draw.chance(rng, 0.5))
+            watched_call(h, name, numbers, log)
+            done += 1
+    return f"{done} calls"
+
+
+def long_objects():
+    """A row of 256 blocks: each of its 1,792 fields is its own."""
+    h = formatted(600, 1)
+    equal(chains.allocate_chain(h, 0, 0, 256), (0, 2, 256), "256 blocks")
+    for k in range(1792):
+        equal(chains.store_field_number(h, 2, k, k + 1), (0, 0, 0), f"field {k}")
+    equal([chains.read_field(h, 2, k)[1] for k in range(1792)], [*range(1, 1793)], "all fields")
+    equal(chains.read_field(h, 2, 1792), (3, 0, 0, False), "no more")
+    equal(chains.allocate_chain(h, 2, 0, 256)[0], 0, "a second row held by field 0")
+    equal(chains.allocate_chain(h, 2, 1, 256)[0], 7, "no third")
+    machine.store_number(h, 2, 0, 0)
+    machine.work(h, 2 * (2 * 600 + 2))
+    equal((machine.audit(h)[1], h.free_count), (1, 600 - 256), "the second row is freed")
+    return "1,792 fields"
+
+
+# ------------------------------------------------------------------ demand 3
+
+def room_enough():
+    """No chain of at most B blocks is refused for want of room where K + 2N +
+    B - 1 is at most M; and M - K - 2N - (B - 1) blocks stay free."""
+    rng = random.Random(23)
+    allocations, refused, least = 0, 0, 10**9
+    for _ in range(250):
+        M = draw.between(rng, 6, 30)
+        U = draw.one_of(rng, [2 * M + 2, 2 * M + 1, M + 1, M, 3 * M, 5, 6, 8])
+        B = draw.one_of(rng, [2, 2, 3, 4, 5])
+        K = M - 2 * facts.N(M, U) - (B - 1)
+        if K < B:
+            continue
+        need(chains.has_room(facts.N(M, U), M, K, B), "the premise doesn't hold")
+        h, greed = formatted(M, U), rng.random()
+        for _ in range(100):
+            before = machine.copy(h)
+            name, numbers = greedy_call(rng, h, K, B, greed)
+            no = (chains.allocate_chain(h, *numbers) if name == "allocate_chain"
+                  else lines.answer_of(h, name, numbers))[0]
+            need(no in (0, 5), f"refusal {no}, M {M}, U {U}, K {K}, B {B}: {name} {numbers}", before)
+            need(len(facts.reachable(h)) <= K, "the run broke its own premise", before, h)
+            need(h.free_count >= M - K - 2 * facts.N(M, U) - (B - 1), "the margin", before, h)
+            least = min(least, h.free_count)
+            allocations += name == "allocate_chain"
+    for _ in range(40):         # with the whole heap to hold
+        h = formatted(7, 3)
+        for _ in range(40):
+            name, numbers = greedy_call(rng, h, 7, 3, 0.5)
+            refused += (chains.allocate_chain(h, *numbers) if name == "allocate_chain"
+                        else lines.answer_of(h, name, numbers))[0] == 7
+    need(refused > 0, "the runs cannot be refused even without the premise")
+    need(allocations > 3000, f"only {allocations} chains")
+    return f"{allocations} chains, least room left {least}"
+
+
+def greedy_call(rng, h, K, B, greed):
+    """A chain where what is reachable then stays within K, else letting go."""
+    held = len(facts.reachable(h))
+    n = draw.between(rng, 1, B)
+    if h.root == 0 or (held + n <= K and draw.chance(rng, 0.7)):
+        last = draw.reachable_block(rng, h)
+        word = draw.below(rng, 7)
+        target = machine.get_word(h, last, word) if last else 0
+        return "allocate_chain", [last, word if last else 0, n] if target == 0 else [last, word, 1]
+    if draw.chance(rng, greed) and n <= K:
+        return "allocate_chain", [0, 0, n]
+    return draw.one_of(rng, [("T", [0]), ("S", [draw.reachable_block(rng, h), 0, 0]),
+                             ("S", [draw.reachable_block(rng, h), 7, 0])])
+
+
+# ------------------------------------------------------------- damaged heaps
+
+def damaged_heaps():
+    """Any heap: every call ends and keeps the lengths; a refusal leaves only
+    its units; every answer that a call can give is met."""
+    rng = random.Random(24)
+    met = {}
+    for _ in range(6000):
+        name, numbers, h = draw_chains.case(rng)
+        before = machine.copy(h)
+        answer = getattr(chains, name)(h, *numbers)
+        need([len(h.words), len(h.colours), len(h.bytes)]
+             == [len(before.words), len(before.colours), len(before.bytes)], f"{name} changes a length", before, h)
+        if answer[0]:
+            leaves_its_units(before, h, answer, name)
+        if name == "read_field":
+            need(h == before, "read field changes the heap", before, h)
+        met[name, answer[0]] = met.get((name, answer[0]), 0) + 1
+    missing = [pair for name, answers in draw_chains.ANSWERS.items()
+               for pair in [(name, no) for no in answers] if pair not in met]
+    need(not missing, f"never answered: {missing}")
+    return f"{sum(met.values())} cases, {len(met)} kinds of answer"
+
+
+TESTS = [rows_of_20_fields, marking_and_pace_0, cases_by_hand, sessions, long_objects, room_enough,
+         damaged_heaps]
+
+if __name__ == "__main__":
+    sys.exit(check.main(TESTS))

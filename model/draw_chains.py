@@ -1,0 +1,108 @@
+"""Drawing at random for the calls on chained objects: sessions, and cases on
+heaps damaged or not. As in draw.py everything follows from the seed.
+"""
+
+import chains
+import draw
+import facts
+import lines
+import machine
+from draw import below, between, chance, one_of
+
+TOP = 4294967295
+
+# Each answer that each call can give on any heap.
+ANSWERS = {"allocate_chain": [0, 1, 2, 3, 5, 7, 8], "read_field": [0, 1, 2, 3, 5, 8],
+           "store_field_number": [0, 1, 2, 3, 5, 8],
+           "store_field_reference": [0, 1, 2, 3, 4, 5, 6, 8]}
+
+
+def sizes(rng):
+    """M and U of a session."""
+    M = one_of(rng, [1, 2, 3, 4, 6, 8, 12, 20, 30])
+    return M, one_of(rng, [0, 1, 1, 2, 3, 5, 8, M])
+
+
+def length(rng, h):
+    """How many blocks a chain is to have; seldom none, or more than there are."""
+    if chance(rng, 0.03):
+        return one_of(rng, [0, 256, 257, TOP])
+    return one_of(rng, [1, 1, 2, 2, 3, 4, between(rng, 1, 9), max(1, min(h.free_count, 9))])
+
+
+def field(rng):
+    if chance(rng, 0.03):
+        return one_of(rng, [1791, 1792, 1793, TOP])
+    return one_of(rng, [0, 1, 6, 7, 8, 13, 14, 20, 21, below(rng, 70)])
+
+
+def call(rng, h, tame=False, odd=0.04):
+    """A call of a session: its name, or the letter of one of document 01's."""
+    if not chance(rng, 0.6):
+        letter, numbers = draw.call(rng, h, tame, odd)
+        return letter, numbers
+    return chained(rng, h, tame, odd)
+
+
+def chained(rng, h, tame, odd):
+    name = one_of(rng, ["allocate_chain"] * 3 + ["read_field", "store_field_number", "store_field_reference"])
+    if name == "allocate_chain" and chance(rng, 0.15 if h.root else 0.9):
+        return name, [0, 0, length(rng, h)]
+    block = draw.block_for(rng, h, odd)
+    if name == "allocate_chain":
+        return name, [block, draw.word_for(rng, odd), length(rng, h)]
+    if name == "read_field":
+        return name, [block, field(rng)]
+    if name == "store_field_number":
+        return name, [block, field(rng), one_of(rng, [0, 2, 3, 12345, TOP])]
+    return name, [block, field(rng), draw.target_for(rng, h, tame, odd)]
+
+
+# ---------------------------------------------------------------------- cases
+
+def reached(rng):
+    """A heap of 1 to 12 blocks reached by calls, with objects on it."""
+    M = one_of(rng, [1, 2, 3, 4, 5, 6, 6, 8, 8, 10, 12])
+    h = machine.empty_heap(M)
+    machine.format(h, M, one_of(rng, [0, 1, 1, 1, 2, 3]))
+    for _ in range(between(rng, 1, 14)):
+        name, numbers = call(rng, h, odd=0.01)
+        if len(name) == 1:
+            lines.answer_of(h, name, numbers)
+        elif name != "allocate_chain" or numbers[2] < 10:
+            getattr(chains, name)(h, *numbers)
+    return h
+
+
+def damage(rng, h):
+    """One thing changed, as a rule one that these calls look at: a free block's
+    link or colour, the count, a word 7 or its bit."""
+    blocks = range(2, len(h.colours) + 2)
+    free = [b for b in blocks if machine.colour(h, b) == machine.FREE and 8 * (b - 1) <= len(h.words)]
+    kind = below(rng, 6)
+    number = lambda: one_of(rng, [0, 1, *blocks, *blocks, len(h.colours) + 2, TOP])
+    if kind == 0 and free:
+        machine.put_word(h, one_of(rng, free), 0, number())
+    elif kind == 1 and free:
+        machine.put_colour(h, one_of(rng, free), one_of(rng, [0, TOP, 1, TOP - 2]))
+    elif kind == 2:
+        h.free_count = below(rng, h.M + 1) if h.M < 100 else 0
+    elif kind == 3 and len(h.words) >= 8:
+        h.words[8 * below(rng, len(h.words) // 8) + 7] = number()
+    elif kind == 4 and h.bytes:
+        h.bytes[below(rng, len(h.bytes))] ^= 128
+    else:
+        draw.damage(rng, h)
+
+
+def case(rng):
+    """(call, numbers, heap): none, one or two things damaged."""
+    h = reached(rng)
+    name, numbers = chained(rng, h, False, 0.05)
+    for _ in range(one_of(rng, [0, 0, 1, 1, 2])):
+        damage(rng, h)
+    if chance(rng, 0.02):
+        h.root = one_of(rng, [1, TOP])
+    if name == "allocate_chain" and h.U > 64:
+        h.U = one_of(rng, [64, 65536])
+    return name, numbers, h
