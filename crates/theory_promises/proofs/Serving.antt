@@ -4,6 +4,8 @@
 --     barrier-none             the barrier does nothing for no target
 --     Fills, form-filled       acts that fill in words of a live block
 --     Orderly, chain-orderly   each block of a form is named by an earlier one, and words are words; a chain is so
+--     Stage, oneServed         n blocks are still to be taken; the heap after one of them
+--     stage-first, stage-block, stage-allows, stage-next     how it starts; its next block, which may be taken, and how it goes on
 --     served                   the acts are the taking, and each of them is allowed when it is done
 --     form-takes               they take n blocks
 -- The block that is taken as the block i of the form is the number i of the list xs: what was taken and filled in before has left the
@@ -224,74 +226,103 @@ module _ (k : Heap) (g : WellFormed k) (n : ℕ) (c : suc n ≤ k .regs .count) 
       subst (λ (z : ℕ). frees n z j ≡ frees n (linkOf k x) k) (sym (t .free))
       (frees-same n (linkOf k x) k j (λ y i. t .links y (later-free y i) (later-apart y i)))
 
+-- n more are to be taken, of which the first is the block i of a form and stands at i in xs; b and w are the call's own holder
+pub record Stage (b w : ℕ) (xs : List ℕ) (n i : ℕ) (k : Heap) : Type 0 where
+  pub formed : WellFormed k
+  pub enough : n ≤ k .regs .count
+  pub spot : (j : ℕ) → j < n → getD xs (i + j) 0 ≡ getD (frees n (k .regs .free) k) j 0
+  pub early : (j : ℕ) → j < i → Live k (getD xs j 0)
+  pub first : i ≡ 0 → (holderPlace (k .regs .blocks) b w ≡ 0) × ((if eqb b 0 then 0 else holderRefusal k b) ≡ 0)
+
+-- the heap after one of them
+abbrev pub oneServed : Form → ℕ → ℕ → List ℕ → ℕ → Heap → Heap
+oneServed f b w xs i k = filled f i (k .regs .free) (held (holderOf f b xs i) (byWord f w i) (k .regs .free) (taken k))
+
+pub stage-block : (b w : ℕ) (xs : List ℕ) (n i : ℕ) (k : Heap) → Stage b w xs (suc n) i k → getD xs i 0 ≡ k .regs .free
+stage-block b w xs n i k s = ap (λ (j : ℕ). getD xs j 0) (omega arith) ∙ s .spot 0 (omega arith)
+
+pub stage-first : (b w n : ℕ) (k : Heap) → WellFormed k → n ≤ k .regs .count → holderPlace (k .regs .blocks) b w ≡ 0
+    → (if eqb b 0 then 0 else holderRefusal k b) ≡ 0 → Stage b w (firstFrees n k) n 0 k
+unfolding firstFrees
+stage-first b w n k g c place holder =
+    record {
+      formed = g;
+      enough = c;
+      spot = λ j l. ap (λ (u : ℕ). getD (frees n (k .regs .free) k) u 0) (omega arith);
+      early = λ j l. absurd (omega arith);
+      first = λ z. (place, holder);
+    }
+
 module _ (f : Form) (o : Orderly f) where
   pub form-filled : (i x : ℕ) (k : Heap) → WellFormed k → Live k x → Fills x (fillActs f i x) k (filled f i x k)
   form-filled i x k g v =
       let s = fill-nulls x (f .nulls i) (o .nulls i) k g v in
       fill-join s (fill-zeros x (f .zeros i) (o .zeros i) (nulled (f .nulls i) x k) (s .formed) (s .lives x v))
 
+  next-one : (i : ℕ) (k : Heap) → WellFormed k → (c v : ℕ) → Allows (aTake c v) k
+      → Next (k .regs .free) (aTake c v ∷ fillActs f i (k .regs .free)) k (filled f i (k .regs .free) (held c v (k .regs .free) (taken k)))
+  unfolding after deed acted
+  next-one i k g c v a =
+      let p = wf-shape k g in
+      let x = k .regs .free in
+      let r = act-run k p (aTake c v) a in
+      let new = take-new k g c v a in
+      let s = form-filled i x (held c v x (taken k)) (deed-formed k g (anAct (aTake c v)) a) new in
+      record {
+        made = record { allowed = (a, s .made .allowed); whole = s .made .whole };
+        formed = s .formed;
+        count = ap (λ (q : Regs). q .count + 1) (s .regs) ∙ take-count k p c v (a .1);
+        free = ap (λ (q : Regs). q .free) (s .regs) ∙ take-next k p c v (a .1);
+        links = λ y fr n. s .links y n (subst (λ (m : ℕ). Block m y) (sym (r .blocks)) (fr .block)) ∙ take-links k p c v (a .1) (holder-zero c v refl (a .0)) y fr n;
+        lives = λ y q. s .lives y (act-live k g (aTake c v) a y q);
+        new = s .lives x new;
+      }
+
   module _ (b w : ℕ) (xs : List ℕ) where
-    -- the holder of block i
-    holds : (i : ℕ) (k : Heap) → WellFormed k → k .regs .count ≢ 0 → ((j : ℕ) → j < i → Live k (getD xs j 0))
-        → (i ≡ 0 → (holderPlace (k .regs .blocks) b w ≡ 0) × ((if eqb b 0 then 0 else holderRefusal k b) ≡ 0))
-        → Allows (aTake (holderOf f b xs i) (byWord f w i)) k
-    unfolding takeRefusal _▷_
-    holds i k g c early first =
-        let list = list-first k (wf-shape k g) c in
-        by-eq i 0
-        (λ e. let t = first e in simp (eq-eqb i 0 e) (t .0, simp (t .1, list)))
-        (λ e.
-        let x = getD xs (f .parent i) 0 in
-        let v = early (f .parent i) (o .parent i e) in
-        let z : x ≢ 0 = λ q. let d = v .block .low in absurd (omega arith) in
-        simp (ne-eqb i 0 e) (place-at k g x (f .word i) v (o .word i), simp (ne-eqb x 0 z, live-holder k x v, list)))
+    module _ (n i : ℕ) (k : Heap) (s : Stage b w xs (suc n) i k) where
+      -- the holder of block i is there
+      pub stage-allows : Allows (aTake (holderOf f b xs i) (byWord f w i)) k
+      unfolding takeRefusal _▷_
+      stage-allows =
+          let list = list-first k (wf-shape k (s .formed)) (λ z. absurd (omega (arith, s .enough))) in
+          by-eq i 0
+          (λ e. let t = s .first e in simp (eq-eqb i 0 e) (t .0, simp (t .1, list)))
+          (λ e.
+          let x = getD xs (f .parent i) 0 in
+          let v = s .early (f .parent i) (o .parent i e) in
+          let z : x ≢ 0 = λ q. let d = v .block .low in absurd (omega arith) in
+          simp (ne-eqb i 0 e) (place-at k (s .formed) x (f .word i) v (o .word i), simp (ne-eqb x 0 z, live-holder k x v, list)))
 
-    next-one : (i : ℕ) (k : Heap) → WellFormed k → (c v : ℕ) → Allows (aTake c v) k
-        → Next (k .regs .free) (aTake c v ∷ fillActs f i (k .regs .free)) k (filled f i (k .regs .free) (held c v (k .regs .free) (taken k)))
-    unfolding after deed acted
-    next-one i k g c v a =
-        let p = wf-shape k g in
-        let x = k .regs .free in
-        let r = act-run k p (aTake c v) a in
-        let new = take-new k g c v a in
-        let s = form-filled i x (held c v x (taken k)) (deed-formed k g (anAct (aTake c v)) a) new in
-        record {
-          made = record { allowed = (a, s .made .allowed); whole = s .made .whole };
-          formed = s .formed;
-          count = ap (λ (q : Regs). q .count + 1) (s .regs) ∙ take-count k p c v (a .1);
-          free = ap (λ (q : Regs). q .free) (s .regs) ∙ take-next k p c v (a .1);
-          links = λ y fr n. s .links y n (subst (λ (m : ℕ). Block m y) (sym (r .blocks)) (fr .block)) ∙ take-links k p c v (a .1) (holder-zero c v refl (a .0)) y fr n;
-          lives = λ y q. s .lives y (act-live k g (aTake c v) a y q);
-          new = s .lives x new;
-        }
+      stage-taken : Next (k .regs .free) (aTake (holderOf f b xs i) (byWord f w i) ∷ fillActs f i (k .regs .free)) k (oneServed f b w xs i k)
+      stage-taken = next-one i k (s .formed) (holderOf f b xs i) (byWord f w i) stage-allows
 
-    -- n more, of which the first is the block i of the form and stands at i in xs
-    serves : (n i : ℕ) (k : Heap) → WellFormed k → n ≤ k .regs .count
-        → ((j : ℕ) → j < n → getD xs (i + j) 0 ≡ getD (frees n (k .regs .free) k) j 0)
-        → ((j : ℕ) → j < i → Live k (getD xs j 0))
-        → (i ≡ 0 → (holderPlace (k .regs .blocks) b w ≡ 0) × ((if eqb b 0 then 0 else holderRefusal k b) ≡ 0))
-        → Made (formActs f b w xs n i) k (serve f b w xs n i k)
+      pub stage-next : Stage b w xs n (i + 1) (oneServed f b w xs i k)
+      stage-next =
+          let t = stage-taken in
+          let e = stage-block b w xs n i k s in
+          let same = rest-same k (s .formed) n (s .enough) t in
+          record {
+            formed = t .formed;
+            enough = omega (arith, t .count, s .enough);
+            spot = λ j l. ap (λ (u : ℕ). getD xs u 0) (omega arith) ∙ s .spot (suc j) (omega arith) ∙ ap (λ (ys : List ℕ). getD ys j 0) (sym same);
+            early = λ j l. by-eq j i
+                (λ q. subst (Live (oneServed f b w xs i k)) (sym (ap (λ (u : ℕ). getD xs u 0) q ∙ e)) (t .new))
+                (λ q. t .lives _ (s .early j (omega arith)));
+            first = λ z. absurd (omega arith);
+          }
+
+    serves : (n i : ℕ) (k : Heap) → Stage b w xs n i k → Made (formActs f b w xs n i) k (serve f b w xs n i k)
     unfolding formActs serve after
-    serves zero i k g c spot early first = record { allowed = tt; whole = refl }
-    serves (suc n) i k g c spot early first =
-        let x = k .regs .free in
-        let t = next-one i k g (holderOf f b xs i) (byWord f w i) (holds i k g (λ z. absurd (omega arith)) early first) in
-        let k2 = filled f i x (held (holderOf f b xs i) (byWord f w i) x (taken k)) in
-        let e : getD xs i 0 ≡ x = ap (λ (j : ℕ). getD xs j 0) (omega arith) ∙ spot 0 (omega arith) in
-        let same = rest-same k g n c t in
-        let spots : ((j : ℕ) → j < n → getD xs (i + 1 + j) 0 ≡ getD (frees n (k2 .regs .free) k2) j 0) =
-        λ j l. ap (λ (u : ℕ). getD xs u 0) (omega arith) ∙ spot (suc j) (omega arith) ∙ ap (λ (ys : List ℕ). getD ys j 0) (sym same) in
-        let lives : ((j : ℕ) → j < i + 1 → Live k2 (getD xs j 0)) =
-        λ j l. by-eq j i (λ q. subst (Live k2) (sym (ap (λ (u : ℕ). getD xs u 0) q ∙ e)) (t .new)) (λ q. t .lives _ (early j (omega arith))) in
-        subst (λ (z : ℕ). Made ((aTake (holderOf f b xs i) (byWord f w i) ∷ fillActs f i z) ++ formActs f b w xs n (i + 1)) k (serve f b w xs n (i + 1) k2)) (sym e)
-        (made-join (t .made) (serves n (i + 1) k2 (t .formed) (omega (arith, t .count)) spots lives (λ z. absurd (omega arith))))
+    serves zero i k s = record { allowed = tt; whole = refl }
+    serves (suc n) i k s =
+        subst (λ (z : ℕ). Made ((aTake (holderOf f b xs i) (byWord f w i) ∷ fillActs f i z) ++ formActs f b w xs n (i + 1)) k (serve f b w xs n (i + 1) (oneServed f b w xs i k)))
+        (sym (stage-block b w xs n i k s))
+        (made-join (stage-taken n i k s .made) (serves n (i + 1) (oneServed f b w xs i k) (stage-next n i k s)))
 
   pub served : (b w n : ℕ) (k : Heap) → WellFormed k → n ≤ k .regs .count → holderPlace (k .regs .blocks) b w ≡ 0
       → (if eqb b 0 then 0 else holderRefusal k b) ≡ 0
       → Made (formActs f b w (firstFrees n k) n 0) k (serve f b w (firstFrees n k) n 0 k)
-  unfolding firstFrees
-  served b w n k g c place holder =
-      serves b w (frees n (k .regs .free) k) n 0 k g c (λ j l. ap (λ (u : ℕ). getD (frees n (k .regs .free) k) u 0) (omega arith)) (λ j l. absurd (omega arith)) (λ z. (place, holder))
+  served b w n k g c place holder = serves b w (firstFrees n k) n 0 k (stage-first b w n k g c place holder)
 
 -- the blocks taken
 none-taken : (act : ℕ → Act) → ((w : ℕ) → takes (act w) ≡ 0) → (ws : List ℕ) → takesIn (map anAct (map act ws)) ≡ 0
