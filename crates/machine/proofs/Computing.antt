@@ -1,4 +1,4 @@
--- All that document 01's calls compute with, opened by one name.
+-- All that the calls compute with, opened by one name.
 --     the-machine          `unfolding the-machine` opens every definition below, for a proof that computes calls on a heap given whole
 -- A definition that such a proof has to compute with belongs on this line, and on no other.
 -- Assumes nothing.
@@ -14,6 +14,9 @@ use Rattle.machine.specs.Format.{freeList, formatted, format}
 use Rattle.machine.specs.Read.{readRefusal, readAnswer, read}
 use Rattle.machine.specs.Store.{barrier, putNumber, putReference, storeNumber, storeRefusal, storeReference, rootRefusal, setRoot}
 use Rattle.machine.specs.Allocate.{unitsDue, firstFits, listRefusal, newColour, taken, held, takeRefusal, allocated, allocate}
+use Rattle.machine.specs.Several.{firstFrees, listWalks, amongst, distinct, severalRefusal, takeSeveralRefusal, nulled, zeroed, serve, severalTaken}
+use Rattle.machine.specs.Chain.{chainLength, allocateChain}
+use Rattle.machine.specs.Field.{fieldPlace, fieldBlock, linkRefusal, walkRefusal, fieldRefusal, readField, storeFieldNumber, fieldStoreRefusal, storeFieldReference}
 use Rattle.machine.specs.Work.{countRefusal, work}
 use Rattle.machine.specs.Session.{does, session, lastOf}
 
@@ -22,5 +25,8 @@ unfolding _▷_ isBlock eightWords withEight bit withBit withoutBit referencesFr
     doomedWhite standing standingOf holderRefusal targetRefusal numbersFit lengthsFit fits isBlockOrNone positionLegal legal entry wordRefusal holderPlace targetPlace unless
     step metBlock metWord begun marked allSound turned advance reclaimed whitened passed act unit run
     freeList formatted format readRefusal readAnswer read barrier putNumber putReference storeNumber storeRefusal storeReference rootRefusal setRoot
-    unitsDue firstFits listRefusal newColour taken held takeRefusal allocated allocate countRefusal work does session lastOf
+    unitsDue firstFits listRefusal newColour taken held takeRefusal allocated allocate
+    firstFrees listWalks amongst distinct severalRefusal takeSeveralRefusal nulled zeroed serve severalTaken chainLength allocateChain
+    fieldPlace fieldBlock linkRefusal walkRefusal fieldRefusal readField storeFieldNumber fieldStoreRefusal storeFieldReference
+    countRefusal work does session lastOf
 the-machine = tt

@@ -1,6 +1,6 @@
 -- Taking several free blocks at once, in a form.
 --     Form                 how the blocks hang together: which earlier block names each one, by which word; what is filled in
---     firstFrees n h       the first n blocks of the free list, by its links
+--     frees n b h, firstFrees n h     n blocks by their links, from b on and from the head of the free list on
 --     listWalks n b h      n blocks of the list from b on are there and free, each with a link that is 0 or a block
 --     distinct xs          no number comes twice
 --     severalRefusal n h   8 or 7 for the first n of the free list
@@ -37,7 +37,7 @@ pub record Form : Type 0 where
 abbrev pub linkOf : Heap → ℕ → ℕ
 linkOf h b = wordOf (h .words) b 0
 
-abbrev frees : ℕ → ℕ → Heap → List ℕ
+abbrev pub frees : ℕ → ℕ → Heap → List ℕ
 frees zero b h = []
 frees (suc n) b h = b ∷ frees n (linkOf h b) h
 

@@ -1,10 +1,10 @@
 -- What is known of each call: the one place that looks at which call it is.
---     format-known, work-known, allocate-known     Format, Work and Allocate; the others go by their kind (`quiet`, `acts-once`)
+--     format-known, work-known, allocate-known, chain-known     Format, Work, Allocate and Allocate chain; the others go by their kind (`quiet`, `acts-once`)
 --     known                    each call
 --     calls-are-deeds          a call that doesn't make the heap anew is exactly its deeds
 --     deeds-allowed            each of them is allowed when it is done
 -- Assumes nothing.
-use Prim.Native.Nat.{ℕ, _≤_}
+use Prim.Native.Nat.{ℕ, _*_, _/_, _%_, _≤_}
 use mathlib.Core.Path.{_≡_, refl, sym, subst}
 use mathlib.Core.Bool.{Bool, true, _&&_}
 use mathlib.Core.List.{[], _∷_, map}
@@ -21,24 +21,31 @@ use Rattle.machine.specs.Units.{stopped}
 use Rattle.machine.specs.Format.{formatted, format}
 use Rattle.machine.specs.Read.{readRefusal, readAnswer, read}
 use Rattle.machine.specs.Store.{storeRefusal, rootRefusal, storeNumber, storeReference, setRoot}
-use Rattle.machine.specs.Allocate.{unitsDue, takeRefusal, allocated, allocate}
+use Rattle.machine.specs.Allocate.{unitsDue, taken, held, takeRefusal, allocated, allocate}
+use Rattle.machine.specs.Several.{Form, firstFrees, takeSeveralRefusal, serve, severalTaken}
+use Rattle.machine.specs.Chain.{chain, chainLength, allocateChain}
+use Rattle.machine.specs.Field.{fieldBlock, fieldRefusal, readField, storeFieldNumber, fieldStoreRefusal, storeFieldReference}
 use Rattle.machine.specs.Work.{countRefusal, worked, work}
 use Rattle.machine.specs.Audit.{audit}
 use Rattle.machine.specs.WellFormed.{WellFormed}
 use Rattle.machine.specs.Session.{Call, plainly, does}
 use Rattle.machine.specs.Session.Call.{Format, Read, Look, StoreNumber, StoreReference, SetRoot, Allocate, Work, Audit}
+use Rattle.machine.specs.Session.Call.{AllocateChain, ReadField, StoreFieldNumber, StoreFieldReference}
 use Rattle.machine.proofs.Tests.{both-true, if-ind}
 use Rattle.machine.proofs.Entering.{first-zero}
 use Rattle.machine.proofs.Allocating.{holder-zero}
 use Rattle.theory_promises.specs.Deeds.{aNumber, aReference, aRoot, aTake, acted, aUnit, anAct, deed, after, AllAllowed}
-use Rattle.theory_promises.specs.Plans.{acting, anewUnless, actsUnless, plan, deeds, Resets}
+use Rattle.theory_promises.specs.Plans.{acting, anewUnless, actsUnless, formActs, severalActs, plan, deeds, Resets}
 use Rattle.theory_promises.specs.Known.{Keeps, Known}
 use Rattle.theory_promises.proofs.Viewing.{wf-shape}
 use Rattle.theory_promises.proofs.TakingMoves.{take-sound}
 use Rattle.theory_promises.proofs.FreshHeap.{fresh-formed}
 use Rattle.theory_promises.proofs.RunMoves.{units-worked}
 use Rattle.theory_promises.proofs.Planning.{allowed-append, units-allowed, on-test, quiet, acts-once, by-units, by-none, by-acts}
-use Rattle.theory_promises.proofs.Refusing.{Fine, small, fine-then, entry-fine, place-fine, count-fine, read-fine, store-fine, root-fine, take-wants}
+use Rattle.theory_promises.proofs.FirstFrees.{several}
+use Rattle.theory_promises.proofs.Serving.{Orderly, served, form-takes, chain-orderly}
+use Rattle.theory_promises.proofs.Fielding.{field-fine, field-allowed, field-store-fine, field-store-allowed}
+use Rattle.theory_promises.proofs.Refusing.{length-fine, Fine, small, fine-then, entry-fine, place-fine, count-fine, read-fine, store-fine, root-fine, take-wants}
 
 -- the numbers that fit
 fit-numbers : (m u lw lc lb : ℕ) → fits m u lw lc lb ≡ true → (1 ≤ m) × (m ≤ 16384) × (u ≤ 65535)
@@ -93,7 +100,8 @@ module _ (h : Heap) (f : WellFormed h) where
         let u = units-worked (h .regs .blocks) due h refl f in
         let s = wf-shape j (u .formed) in
         let place : holderPlace (j .regs .blocks) b w ≡ 0 = subst (λ (m : ℕ). holderPlace m b w ≡ 0) (sym (u .blocks)) l in
-        by-acts h f due (takeRefusal b j) 1 (j .regs .free) (aTake b w ∷ []) (λ z. ((place, z), tt)) (omega arith) (omega arith)
+        by-acts h f due (takeRefusal b j) 1 (j .regs .free) (aTake b w ∷ []) (held b w (j .regs .free) (taken j))
+        (λ z. record { allowed = ((place, z), tt); whole = refl }) (omega arith) (omega arith)
         (take-sound j s b (λ z. holder-zero b w refl place z .0))
         (λ y. (omega arith, let c = take-wants j s b y in omega arith))
 
@@ -104,8 +112,43 @@ module _ (h : Heap) (f : WellFormed h) where
         (fine-then _ _ (entry-fine h (wf-shape h f)) (λ e. place-fine (h .regs .blocks) b w))
         (λ z. take-known (first-zero (entry h) (holderPlace (h .regs .blocks) b w) z .1))
 
+  module _ (b w n : ℕ) where
+    abbrev dues : ℕ
+    dues = n * unitsDue (h .regs)
+
+    abbrev i : Heap
+    i = after (replicate dues aUnit) h
+
+    -- several blocks taken in a form, once their units are done
+    several-known : (g : Form) → Orderly g → holderPlace (h .regs .blocks) b w ≡ 0
+        → Keeps (acting n dues (severalActs g n b w i)) h (severalTaken g n b w (stopped 0 dues i))
+    unfolding severalTaken _▷_
+    several-known g o l =
+        let u = units-worked (h .regs .blocks) dues h refl f in
+        let place : holderPlace (i .regs .blocks) b w ≡ 0 = subst (λ (m : ℕ). holderPlace m b w ≡ 0) (sym (u .blocks)) l in
+        let s = several i (wf-shape i (u .formed)) n b (λ z. holder-zero b w refl place z .0) in
+        let xs = firstFrees n i in
+        let t = form-takes g b w xs n 0 in
+        by-acts h f dues (takeSeveralRefusal n b i) n (i .regs .free) (formActs g b w xs n 0) (serve g b w xs n 0 i)
+        (λ z. served g o b w n i (u .formed) (s .enough z) place (s .holder z)) (rw t (omega arith)) (omega (arith, t))
+        (s .undamaged) (λ y. (omega arith, s .wanting y))
+
+    chain-known : Known (AllocateChain b w n) h
+    unfolding plan does allocateChain
+    chain-known =
+        by-units h f dues (entry h ▷ holderPlace (h .regs .blocks) b w ▷ chainLength n) n (severalActs chain n b w) (severalTaken chain n b w)
+        (fine-then _ _ (entry-fine h (wf-shape h f)) (λ e. fine-then _ _ (place-fine (h .regs .blocks) b w) (λ q. length-fine n)))
+        (λ z.
+        let p = first-zero (entry h) (holderPlace (h .regs .blocks) b w ▷ chainLength n) z .1 in
+        several-known chain chain-orderly (first-zero (holderPlace (h .regs .blocks) b w) (chainLength n) p .0))
+
+  read-field-answer : (b k : ℕ) → Fine (readField b k h .answer .refusal)
+  unfolding readField readAnswer
+  read-field-answer b k =
+      if-ind (λ (x : ReadAnswer). Fine (x .refusal)) (eqb (fieldRefusal b k h) 0) (λ t. small 0 (omega arith)) (λ t. field-fine h f b k)
+
 pub known : (c : Call) (h : Heap) → WellFormed h → Known c h
-unfolding plan does read audit storeNumber storeReference setRoot acted
+unfolding plan does read audit storeNumber storeReference setRoot readField storeFieldNumber storeFieldReference acted
 known (Format m u) h f = format-known m u h
 known (Read b w) h f = quiet 0 h (plainly (read b w h)) refl (read-answer h f b w)
 known (Look b) h f = quiet 0 h _ refl (small 0 (omega arith))
@@ -113,6 +156,12 @@ known (StoreNumber b w v) h f = acts-once (readRefusal b w h) (aNumber b w v) h 
 known (StoreReference b w t) h f = acts-once (storeRefusal b w t h) (aReference b w t) h refl (λ z. z) (store-fine h (wf-shape h f) b w t)
 known (SetRoot t) h f = acts-once (rootRefusal t h) (aRoot t) h refl (λ z. z) (root-fine h (wf-shape h f) t)
 known (Allocate b w) h f = allocate-known h f b w
+known (AllocateChain b w n) h f = chain-known h f b w n
+known (ReadField b k) h f = quiet 0 h (plainly (readField b k h)) refl (read-field-answer h f b k)
+known (StoreFieldNumber b k v) h f =
+    acts-once (fieldRefusal b k h) (aNumber (fieldBlock (k / 7) b h) (k % 7) v) h refl (field-allowed h f b k) (field-fine h f b k)
+known (StoreFieldReference b k t) h f =
+    acts-once (fieldStoreRefusal b k t h) (aReference (fieldBlock (k / 7) b h) (k % 7) t) h refl (field-store-allowed h f b k t) (field-store-fine h f b k t)
 known (Work n) h f = work-known h f n
 known Audit h f = quiet 0 h (audit h) refl (small 0 (omega arith))
 

@@ -1,9 +1,11 @@
 -- A linked list that has exactly the blocks of which something holds, when a block goes to its front, when the first is taken off, and
 -- when nothing of it changes.
 --     listed-same              a list whose members keep their next block is the same list
+--     First, first-of          the first of a list, and the rest of it
 --     chain-same, same-blocks  nothing of it changes
 --     chain-push, push-length  a block goes to the front
 --     chain-pop, pop-length    the first is taken off
+--     not-again                which the rest doesn't have
 -- Assumes nothing.
 use Prim.Native.Nat.{ℕ, suc}
 use mathlib.Core.Path.{_≡_, refl, sym, ap, subst}
@@ -62,11 +64,11 @@ pub record First (next : ℕ → ℕ) (end a : ℕ) (l : List ℕ) : Type 0 wher
   pub whole : l ≡ a ∷ rest
   pub listed : Listed next end (next a) rest
 
-first-of : {next : ℕ → ℕ} {end a : ℕ} {l : List ℕ} → Listed next end a l → a ≢ end → First next end a l
+pub first-of : {next : ℕ → ℕ} {end a : ℕ} {l : List ℕ} → Listed next end a l → a ≢ end → First next end a l
 first-of (ends e) n = absurd (n e)
 first-of (goes {a} {l} m d) n = record { rest = l; whole = refl; listed = d }
 
-not-again : {a : ℕ} {l : List ℕ} → Distinct (a ∷ l) → List·Memᴰ a l → ⊥
+pub not-again : {a : ℕ} {l : List ℕ} → Distinct (a ∷ l) → List·Memᴰ a l → ⊥
 not-again (more n d) i = n i
 
 module _ {P Q : ℕ → Type 0} {next next′ : ℕ → ℕ} {end a : ℕ} (e : Exactly P next end a) (apart : a ≢ end)

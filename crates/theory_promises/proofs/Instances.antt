@@ -4,7 +4,8 @@
 --     freed                    a block out of reach is freed by a cycle
 --     survives                 a block out of reach that is stored as a target within the cycle is not
 --     hand-arithmetic          cases 12 and 13 of document 01
---     roomy                    200 allocations that meet demand 3's premises
+--     chains-good              chains that the test accepts meet them
+--     roomy, roomy-chains      200 allocations that meet demand 3's premises, and 60 chains
 -- Assumes nothing.
 use Prim.Native.Nat.{ℕ, zero, suc, _+_, _*_, _≤_}
 use mathlib.Core.Path.{_≡_, refl, sym, _∙_, ap, subst}
@@ -25,19 +26,22 @@ use Rattle.machine.specs.Answers.{Given}
 use Rattle.machine.specs.Units.{run}
 use Rattle.machine.specs.Format.{formatted}
 use Rattle.machine.specs.Allocate.{unitsDue, takeRefusal}
+use Rattle.machine.specs.Several.{firstFrees, takeSeveralRefusal}
+use Rattle.machine.specs.Chain.{chain, chainLength}
 use Rattle.machine.specs.Session.{does, session}
-use Rattle.machine.specs.Session.Call.{Allocate, Work}
+use Rattle.machine.specs.Session.Call.{Allocate, AllocateChain, Work}
 use Rattle.machine.specs.WellFormed.{Block}
 use Rattle.machine.proofs.Tests.{both-true, either-true, if-ind, clash}
 use Rattle.machine.proofs.Computing.{the-machine}
 use Rattle.theory_audit.proofs.Words.{names-member}
 use Rattle.theory_promises.specs.Reachable.{Reachable, isRoot, isNamed, IsFree}
 use Rattle.theory_promises.specs.Deeds.{Act, acted, Deed, aUnit, anAct, deed, after}
-use Rattle.theory_promises.specs.Plans.{plan, deeds, asks}
+use Rattle.theory_promises.specs.Plans.{formActs, plan, deeds, asks}
 use Rattle.theory_promises.specs.Sessions.{NoReset, sessionDeeds, Proper, NoBegin, FreedBy, now, later}
 use Rattle.theory_promises.specs.Demand3.{cycles, Good, Premises, Asking}
 use Rattle.theory_promises.specs.Instances.{fresh, leaving, before, left, plain, Freed, Survives, HandArithmetic, within, allWithin}
 use Rattle.theory_promises.specs.Instances.{namesWithin, closes, pair, goesOn, works, churn, byTurns, rooted, long, Roomy}
+use Rattle.theory_promises.specs.Instances.{chains, trio, chainsWork, RoomyChains}
 use Rattle.theory_promises.proofs.FreshHeap.{fresh-formed}
 use Rattle.theory_promises.proofs.Collecting.{garbage-goes}
 use Rattle.theory_promises.proofs.Rooming.{room-for, margin-for}
@@ -96,15 +100,35 @@ allocate-acts b w h =
     (λ t. if-ind Nameless (eqb (takeRefusal b (run (unitsDue (h .regs)) 0 h .heap)) 0) (λ s. record { proper = λ k. (λ z. absurd (z refl), tt) }) (λ s. no-acts))
     (λ t. no-acts)
 
+-- a chain's links are null when they are filled in, and become references by the taking of the next block
+links-acts : (b w : ℕ) (xs : List ℕ) (n i : ℕ) → Nameless (formActs chain b w xs n i)
+unfolding formActs
+links-acts b w xs zero i = no-acts
+links-acts b w xs (suc n) i =
+    record { proper = λ k. (λ z. absurd (z refl), (λ z. absurd (z refl), links-acts b w xs n (i + 1) .proper _)) }
+
+chain-acts : (b w n : ℕ) (h : Heap) → Nameless (plan (AllocateChain b w n) h .acts)
+unfolding plan
+chain-acts b w n h =
+    let k = run (n * unitsDue (h .regs)) 0 h .heap in
+    if-ind Nameless (eqb (entry h ▷ holderPlace (h .regs .blocks) b w ▷ chainLength n) 0)
+    (λ t. if-ind Nameless (eqb (takeSeveralRefusal n b k) 0) (λ s. links-acts b w (firstFrees n k) n 0) (λ s. no-acts))
+    (λ t. no-acts)
+
+chain-proper : (b w n : ℕ) (h : Heap) → Proper (deeds (AllocateChain b w n) h) h
+chain-proper b w n h =
+    let p = plan (AllocateChain b w n) h in
+    units-proper (p .units) (map anAct (p .acts)) (chain-acts b w n h .proper) h
+
 allocate-proper : (b w : ℕ) (h : Heap) → Proper (deeds (Allocate b w) h) h
 allocate-proper b w h =
     let p = plan (Allocate b w) h in
     units-proper (p .units) (map anAct (p .acts)) (allocate-acts b w h .proper) h
 
-goes-on : (g : Given) (rest : Heap → Bool) → goesOn g rest ≡ true → (closes (g .heap) (pair (g .heap)) ≡ true) × (rest (g .heap) ≡ true)
+goes-on : (g : Given) (reached : Heap → List ℕ) (rest : Heap → Bool) → goesOn g reached rest ≡ true → (closes (g .heap) (reached (g .heap)) ≡ true) × (rest (g .heap) ≡ true)
 unfolding goesOn
-goes-on g rest e =
-    let c = closes (g .heap) (pair (g .heap)) in
+goes-on g reached rest e =
+    let c = closes (g .heap) (reached (g .heap)) in
     both-true c (rest (g .heap)) (both-true (eqb (g .answer .refusal) 0) (c && rest (g .heap)) e .1)
 
 pub works-good : (bs : List ℕ) (h : Heap) → works bs h ≡ true → Good 2 (churn bs) h
@@ -112,7 +136,7 @@ unfolding works
 works-good [] h e = tt
 works-good (b ∷ bs) h e =
     let g = does (Allocate b 0) h in
-    let t = goes-on g (λ k. works bs k) e in
+    let t = goes-on g pair (λ k. works bs k) e in
     ((allocate-proper b 0 h, record { list = pair (g .heap); short = omega arith; has = λ x r. closes-has (g .heap) (pair (g .heap)) (t .0) r }), works-good bs (g .heap) (t .1))
 
 churn-unreset : (bs : List ℕ) (h : Heap) → NoReset (churn bs) h
@@ -124,6 +148,24 @@ churn-asks : (bs : List ℕ) (h : Heap) → Asking 1 (churn bs) h
 unfolding plan
 churn-asks [] h = tt
 churn-asks (b ∷ bs) h = (omega arith, churn-asks bs (does (Allocate b 0) h .heap))
+
+pub chains-good : (n : ℕ) (h : Heap) → chainsWork n h ≡ true → Good 3 (chains n) h
+unfolding chainsWork
+chains-good zero h e = tt
+chains-good (suc n) h e =
+    let g = does (AllocateChain 0 0 3) h in
+    let t = goes-on g trio (λ k. chainsWork n k) e in
+    ((chain-proper 0 0 3 h, record { list = trio (g .heap); short = omega arith; has = λ x r. closes-has (g .heap) (trio (g .heap)) (t .0) r }), chains-good n (g .heap) (t .1))
+
+chains-unreset : (n : ℕ) (h : Heap) → NoReset (chains n) h
+unfolding plan
+chains-unreset zero h = tt
+chains-unreset (suc n) h = (λ z. clash z refl, chains-unreset n (does (AllocateChain 0 0 3) h .heap))
+
+chains-ask : (n : ℕ) (h : Heap) → Asking 3 (chains n) h
+unfolding plan
+chains-ask zero h = tt
+chains-ask (suc n) h = (omega arith, chains-ask n (does (AllocateChain 0 0 3) h .heap))
 
 -- after no deed of ds is g free
 unfoldable neverFree : ℕ → List Deed → Heap → Bool
@@ -233,4 +275,41 @@ roomy =
       fits = enough;
       room = λ b w. room-for .further 20 5 2 1 long long-premises one-at-a-time (omega (arith, enough)) (Allocate b w) (one-more b w (session long (formatted 20 5)));
       margin = omega (arith, margin-for 20 5 2 1 long long-premises one-at-a-time);
+    }
+
+chained-works : chainsWork 60 (formatted 19 6) ≡ true
+unfolding the-machine within allWithin namesWithin closes goesOn chainsWork
+chained-works = refl
+
+chained-premises : Premises 19 6 3 (chains 60)
+chained-premises =
+    record {
+      some = omega arith;
+      most = omega arith;
+      paced = omega arith;
+      pace = omega arith;
+      formats = chains-unreset 60 (formatted 19 6);
+      good = chains-good 60 (formatted 19 6) chained-works;
+    }
+
+seven : cycles 19 6 ≡ 7
+unfolding cycles
+seven = refl
+
+chain-asks : (b w n : ℕ) (h : Heap) → asks (AllocateChain b w n) h ≤ n
+unfolding plan
+chain-asks b w n h = omega arith
+
+pub roomy-chains : RoomyChains
+roomy-chains =
+    let h = formatted 19 6 in
+    let asking = chains-ask 60 h in
+    record {
+      many = refl;
+      spans = seven;
+      premises = chained-premises;
+      asking = asking;
+      fits = rw seven refl;
+      room = λ b w. room-for .further 19 6 3 3 (chains 60) chained-premises asking (omega (arith, seven)) (AllocateChain b w 3) (chain-asks b w 3 (session (chains 60) h));
+      margin = omega (arith, margin-for 19 6 3 3 (chains 60) chained-premises asking);
     }

@@ -15,7 +15,10 @@ pub mod StoringMoves
 pub mod TakingMoves
 pub mod DeedMoves
 pub mod Refusing
+pub mod FirstFrees
 pub mod Planning
+pub mod Serving
+pub mod Fielding
 pub mod Calls
 pub mod Courses
 pub mod Keeping

@@ -1,5 +1,7 @@
 -- From a call's plan to what is known of it: what calls of one kind have in common.
 --     after-append, allowed-append, units-allowed     deeds one list after another
+--     Made, made-join          acts that lead from a heap to a heap, each of them allowed when it is done
+--     map-append               the deeds of acts one list after another
 --     on-test                  what holds by a test, where it came out true and where it came out false
 --     quiet                    a call that changes nothing
 --     acts-once                a call that is refused or does one act that takes nothing
@@ -7,7 +9,7 @@
 --     by-none, by-acts         which is nothing, or acts that may be refused then
 -- Assumes nothing.
 use Prim.Native.Nat.{ℕ, zero, suc, _*_, _≤_, _<_}
-use mathlib.Core.Path.{_≡_, refl, sym, subst}
+use mathlib.Core.Path.{_≡_, refl, sym, _∙_, ap, subst}
 use mathlib.Core.Bool.{Bool, true, false}
 use mathlib.Core.Logic.{_≢_}
 use mathlib.Core.List.{List, [], _∷_, _++_, map}
@@ -37,6 +39,24 @@ pub allowed-append : (ds es : List Deed) (h : Heap) → AllAllowed ds h → AllA
 unfolding after
 allowed-append [] es h a b = b
 allowed-append (d ∷ ds) es h a b = (a .0, allowed-append ds es (deed d h) (a .1) b)
+
+pub map-append : (ys zs : List Act) → map anAct (ys ++ zs) ≡ map anAct ys ++ map anAct zs
+map-append [] zs = refl
+map-append (a ∷ ys) zs = ap (λ (ds : List Deed). anAct a ∷ ds) (map-append ys zs)
+
+-- the acts ys lead from k to j
+pub record Made (ys : List Act) (k j : Heap) : Type 0 where
+  pub allowed : AllAllowed (map anAct ys) k
+  pub whole : j ≡ after (map anAct ys) k
+
+pub made-join : {ys zs : List Act} {k i j : Heap} → Made ys k i → Made zs i j → Made (ys ++ zs) k j
+made-join {ys} {zs} {k} {i} {j} s t =
+    record {
+      allowed = subst (λ (ds : List Deed). AllAllowed ds k) (sym (map-append ys zs))
+          (allowed-append (map anAct ys) (map anAct zs) k (s .allowed) (subst (AllAllowed (map anAct zs)) (s .whole) (t .allowed)));
+      whole = t .whole ∙ ap (after (map anAct zs)) (s .whole) ∙ sym (after-append (map anAct ys) (map anAct zs) k)
+          ∙ ap (λ (ds : List Deed). after ds k) (sym (map-append ys zs));
+    }
 
 pub units-allowed : (n : ℕ) (h : Heap) → AllAllowed (replicate n aUnit) h
 units-allowed zero h = tt
@@ -105,18 +125,18 @@ module _ (h : Heap) (f : WellFormed h) (n : ℕ) where
         wanting = y;
       }
 
-  -- the acts ys, unless they are refused by r
-  pub by-acts : (r b v : ℕ) (ys : List Act) → (r ≡ 0 → AllAllowed (map anAct ys) k)
+  -- the acts ys, which lead to j, unless they are refused by r
+  pub by-acts : (r b v : ℕ) (ys : List Act) (j : Heap) → (r ≡ 0 → Made ys k j)
       → unitsDue (h .regs) * takesIn (map anAct ys) ≤ n → takesIn (map anAct ys) ≤ b
       → r ≢ 8 → (r ≡ 7 → (unitsDue (h .regs) * b ≤ n) × (k .regs .count < b))
-      → Keeps (acting b n (actsUnless r ys)) h (if eqb r 0 then answering 0 v n (after (map anAct ys) k) else answering r 0 n k)
-  by-acts r b v ys a p q x y =
-      on-test (λ (t : Bool). Keeps (acting b n (if t then ys else [])) h (if t then answering 0 v n (after (map anAct ys) k) else answering r 0 n k)) (eqb r 0)
+      → Keeps (acting b n (actsUnless r ys)) h (if eqb r 0 then answering 0 v n j else answering r 0 n k)
+  by-acts r b v ys j a p q x y =
+      on-test (λ (t : Bool). Keeps (acting b n (if t then ys else [])) h (if t then answering 0 v n j else answering r 0 n k)) (eqb r 0)
       (λ t.
       record {
         anew = λ z. clash z refl;
-        whole = λ z. sym (after-append (replicate n aUnit) (map anAct ys) h);
-        allowed = a (eqb-true r 0 t);
+        whole = λ z. a (eqb-true r 0 t) .whole ∙ sym (after-append (replicate n aUnit) (map anAct ys) h);
+        allowed = a (eqb-true r 0 t) .allowed;
         paid = p;
         few = q;
         undamaged = λ z. absurd (omega arith);

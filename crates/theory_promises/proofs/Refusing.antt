@@ -2,7 +2,7 @@
 --     Fine r                   the refusal number r is neither 7 nor 8
 --     small                    every number below 7 is fine
 --     fine-if, fine-then       a choice of two, and the first of two
---     entry-fine, word-fine, place-fine, goal-fine, holder-fine, target-fine, count-fine     the tests one by one
+--     entry-fine, word-fine, place-fine, goal-fine, holder-fine, target-fine, count-fine, length-fine     the tests one by one
 --     read-fine, store-fine, root-fine     those of the calls that take nothing
 --     take-wants               an allocation is refused by 7 only where no block is free
 -- Assumes nothing.
@@ -23,6 +23,7 @@ use Rattle.machine.specs.Entry.{entry, wordRefusal, holderPlace, targetPlace, i
 use Rattle.machine.specs.Read.{readRefusal}
 use Rattle.machine.specs.Store.{storeRefusal, rootRefusal}
 use Rattle.machine.specs.Allocate.{takeRefusal}
+use Rattle.machine.specs.Chain.{chainLength}
 use Rattle.machine.specs.Work.{countRefusal}
 use Rattle.machine.specs.WellFormed.{Block}
 use Rattle.machine.proofs.Tests.{if-ind, by-eq}
@@ -48,6 +49,10 @@ fine-then a b p q = if-ind Fine (eqb a 0) (λ t. q (eqb-true a 0 t)) (λ t. p)
 pub count-fine : (n : ℕ) → Fine (countRefusal n)
 unfolding countRefusal
 count-fine n = fine-if (leb n 65535) (small 0 (omega arith)) (record { seven = λ z. absurd (omega arith); eight = λ z. absurd (omega arith) })
+
+pub length-fine : (n : ℕ) → Fine (chainLength n)
+unfolding chainLength
+length-fine n = fine-if (leb 1 n && leb n 256) (small 0 (omega arith)) (small 3 (omega arith))
 
 pub word-fine : (m b w : ℕ) → Fine (wordRefusal m b w)
 unfolding wordRefusal

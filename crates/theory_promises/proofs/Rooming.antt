@@ -4,7 +4,8 @@
 --     call-event               a call is an event of the abstract collector: its units, and then acts that they have paid for
 --     call-keeps               a call that makes nothing anew keeps M and the pace
 --     room-for, margin-for     the promises where no call asks for more than B blocks
---     each-one                 a call of document 01 asks for one block at most
+--     room-as-read, margin-as-read     the same with N + B - 1 for N, which follows
+--     each-one                 every call but a chain of two blocks or more asks for one block at most
 --     room-enough, margin      the promises, with B = 1
 -- Assumes nothing.
 use Prim.Native.Nat.{ℕ, _+_, _-_, _*_, _/_, _≤_}
@@ -22,6 +23,7 @@ use Rattle.machine.specs.WellFormed.{WellFormed}
 use Rattle.machine.specs.Format.{formatted}
 use Rattle.machine.specs.Session.{Call, does, session}
 use Rattle.machine.specs.Session.Call.{Format, Read, Look, StoreNumber, StoreReference, SetRoot, Allocate, Work, Audit}
+use Rattle.machine.specs.Session.Call.{AllocateChain, ReadField, StoreFieldNumber, StoreFieldReference}
 use Rattle.machine.proofs.Tests.{by-eq}
 use Rattle.theory_moves.specs.Heaps.{Sound}
 use Rattle.theory_moves.specs.Runs.{units}
@@ -32,7 +34,8 @@ use Rattle.theory_promises.specs.View.{view}
 use Rattle.theory_promises.specs.Deeds.{Act, Deed, aUnit, anAct, deed, after}
 use Rattle.theory_promises.specs.Plans.{plan, deeds, worked, Resets, asks}
 use Rattle.theory_promises.specs.Sessions.{NoReset, Proper, unitsIn}
-use Rattle.theory_promises.specs.Demand3.{cycles, Few, Good, Premises, Asking, RoomFor, MarginFor, RoomEnough, Margin}
+use Rattle.theory_promises.specs.Demand3.{cycles, Few, Good, Premises, Asking, RoomFor, MarginFor, RoomAsRead, MarginAsRead}
+use Rattle.theory_promises.specs.Demand3.{Single, Singles, EachOne, RoomEnough, Margin}
 use Rattle.theory_promises.proofs.Viewing.{wf-shape}
 use Rattle.theory_promises.proofs.Reaching.{view-reachable}
 use Rattle.theory_promises.proofs.Counts.{free-count}
@@ -194,25 +197,43 @@ room-for =
 pub margin-for : MarginFor
 margin-for m u k n cs q a = left-over m u k n cs q a
 
--- a call that asked for more would end this, and with it the two promises below: `room-for` and `margin-for` would stand in their place
-pub each-one : (c : Call) (h : Heap) → asks c h ≤ 1
-unfolding plan
-each-one (Format m u) h = omega arith
-each-one (Read b w) h = omega arith
-each-one (Look b) h = omega arith
-each-one (StoreNumber b w v) h = omega arith
-each-one (StoreReference b w t) h = omega arith
-each-one (SetRoot t) h = omega arith
-each-one (Allocate b w) h = omega arith
-each-one (Work n) h = omega arith
-each-one Audit h = omega arith
+-- with N + B - 1 for N there is B - 1 more than room enough
+pub room-as-read : RoomAsRead
+room-as-read =
+    record {
+      within = λ m u k n cs c ds q a l. room-for .within m u k n cs c ds q a (omega arith);
+      further = λ m u k n cs q a l c b. room-for .further m u k n cs q a (omega arith) c b;
+    }
 
-asking-one : (cs : List Call) (h : Heap) → Asking 1 cs h
-asking-one [] h = tt
-asking-one (c ∷ cs) h = (each-one c h, asking-one cs (does c h .heap))
+pub margin-as-read : MarginAsRead
+margin-as-read m u k n cs q a = omega (arith, margin-for m u k n cs q a)
+
+-- one line for each call
+asks-one : (c : Call) (h : Heap) → Single c → asks c h ≤ 1
+unfolding plan
+asks-one (Format m u) h s = omega arith
+asks-one (Read b w) h s = omega arith
+asks-one (Look b) h s = omega arith
+asks-one (StoreNumber b w v) h s = omega arith
+asks-one (StoreReference b w t) h s = omega arith
+asks-one (SetRoot t) h s = omega arith
+asks-one (Allocate b w) h s = omega arith
+asks-one (AllocateChain b w n) h s = s
+asks-one (ReadField b k) h s = omega arith
+asks-one (StoreFieldNumber b k v) h s = omega arith
+asks-one (StoreFieldReference b k t) h s = omega arith
+asks-one (Work n) h s = omega arith
+asks-one Audit h s = omega arith
+
+asking-one : (cs : List Call) (h : Heap) → Singles cs → Asking 1 cs h
+asking-one [] h s = tt
+asking-one (c ∷ cs) h s = (asks-one c h (s .0), asking-one cs (does c h .heap) (s .1))
+
+pub each-one : EachOne
+each-one = record { call = asks-one; calls = asking-one }
 
 pub room-enough : RoomEnough
-room-enough m u k cs q l b w = room-for .further m u k 1 cs q (asking-one cs (formatted m u)) (omega arith) (Allocate b w) (each-one (Allocate b w) (session cs (formatted m u)))
+room-enough m u k cs q a l b w = room-for .further m u k 1 cs q a (omega arith) (Allocate b w) (each-one .call (Allocate b w) (session cs (formatted m u)) tt)
 
 pub margin : Margin
-margin m u k cs q = let s = margin-for m u k 1 cs q (asking-one cs (formatted m u)) in omega arith
+margin m u k cs q a = omega (arith, margin-for m u k 1 cs q a)

@@ -1,4 +1,5 @@
 -- An allocation, once its units are done, is a move: the first free block is taken, for a holder or for the root. It keeps the heap's shape.
+--     first-in                 a list that isn't at its end has its first
 --     first-free, next-free    the free head, and the link of the first free block, are 0 or free blocks
 --     head-count, count-head   the free head is 0 exactly where the free count is
 --     list-emptied, list-first, list-seven, list-sound     the free list is refused by 7 exactly where the free count is 0, and never by 8
@@ -7,7 +8,8 @@
 --     taken-after              a block taken, and then a step in which its words and bits, and all colours, stay
 --     take-held, take-root     the move
 --     take-shape               the shape afterwards
---     take-count               the free count falls by one
+--     take-count, take-next    the free count falls by one, and the next free block is the head
+--     take-links               the other free blocks keep their links
 -- Assumes nothing.
 use Prim.Native.Nat.{ℕ, _+_, _-_, _≤_}
 use mathlib.Core.Path.{_≡_, refl, sym, _∙_, ap, subst}
@@ -52,7 +54,7 @@ use Rattle.theory_promises.proofs.StoringMoves.{word-as, cells-join, ho
 
 -- the first of a list, and the next
 module _ {next : ℕ → ℕ} {end : ℕ} where
-  first-in : {a : ℕ} {l : List ℕ} → Listed next end a l → a ≢ end → List·Memᴰ a l
+  pub first-in : {a : ℕ} {l : List ℕ} → Listed next end a l → a ≢ end → List·Memᴰ a l
   first-in (ends e) n = absurd (n e)
   first-in (goes o d) n = List·Memᴰ·head refl
 
@@ -317,3 +319,14 @@ module _ (h : Heap) (p : Shape h) where
     take-count =
         let c = list-zero h (take-zero h b z) .1 in
         by-eq b 0 (λ e. rw (rooted e) (omega arith)) (λ e. rw (stored e) (omega arith))
+
+    pub take-next : held b w x (taken h) .regs .free ≡ link
+    unfolding taken putReference
+    take-next = by-eq b 0 (λ e. rw (rooted e) refl) (λ e. rw (stored e) refl)
+
+    pub take-links : (b ≢ 0 → Block m b × (w ≤ 7)) → (y : ℕ) → Coloured h Free y → y ≢ x → wordOf (held b w x (taken h) .words) y 0 ≡ wordOf (h .words) y 0
+    take-links i y f n =
+        by-eq b 0
+        (λ e. take-root e .others y (there (f .block)) n .words 0)
+        (λ e. take-held e (i e .0) (i e .1) .others y (there (f .block))
+        (λ o. live-taken (holder e (i e .0) (i e .1)) (ap (λ (z : ℕ). colourOf h z) (sym o) ∙ f .colour)) n .words 0)

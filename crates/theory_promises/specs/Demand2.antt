@@ -1,4 +1,4 @@
--- Demand 2, as statements about document 01's calls.
+-- Demand 2, as statements about the calls.
 --     CallsKeep            a formatted heap is well-formed; every call keeps a well-formed heap so, and none answers 8
 --     TouchesCall c h b w  the call c on h writes word w of b: a store into b, or an allocation held by b, that isn't refused
 --     Safe c h             what the call c leaves of the blocks reachable before it

@@ -1,4 +1,4 @@
--- Demand 3, as statements about document 01's calls.
+-- Demand 3, as statements about the calls.
 --     allocatedBlocks h    how many blocks are allocated
 --     CycleShort           "a cycle that starts with A allocated blocks takes at most A + M + 2 units", and exactly 2 + marked + M
 --     cycles m u           N: "(2M + 2)/U rounded up"
@@ -6,10 +6,13 @@
 --     Good k cs h          after each call at most k are reachable, and each target named was 0 or reachable at that moment
 --     Asking n cs h        no call of the session asks for more than n blocks
 --     RoomFor, MarginFor   no call is refused for want of room, and the margin, where calls ask for at most B blocks: K + 2N + B - 1 ≤ M
---     RoomEnough           "no allocation is refused for want of room"
---     Margin               the free count after every call is at least M - K - 2N
+--     RoomAsRead, MarginAsRead     the same with N + B - 1 for N, as document 02 reads demand 3: K + 2(N + B - 1) ≤ M
+--     Single c, Singles cs     the call asks for one block at most; each call of the session does
+--     EachOne              sessions of such calls ask for one block at most: those of document 01's nine calls among them
+--     RoomEnough           "no allocation is refused for want of room", where calls ask for one block at most
+--     Margin               the free count after every call is at least M - K - 2N there
 -- A fresh heap is `formatted m u`. Sessions are any calls with any arguments, refused ones among them, without a further Format that
--- answers 0. The calls of document 01 ask for one block at most, so that RoomEnough and Margin are the case B = 1.
+-- answers 0. RoomEnough and Margin are the case B = 1, which is that of document 01.
 -- Assumes nothing.
 use Prim.Native.Nat.{ℕ, _+_, _-_, _*_, _/_, _≤_}
 use mathlib.Core.Path.{_≡_}
@@ -23,7 +26,8 @@ use Rattle.machine.specs.Audit.{countFrom}
 use Rattle.machine.specs.WellFormed.{WellFormed}
 use Rattle.machine.specs.Format.{formatted}
 use Rattle.machine.specs.Session.{Call, does, session}
-use Rattle.machine.specs.Session.Call.{Allocate}
+use Rattle.machine.specs.Session.Call.{Format, Read, Look, StoreNumber, StoreReference, SetRoot, Allocate, Work, Audit}
+use Rattle.machine.specs.Session.Call.{AllocateChain, ReadField, StoreFieldNumber, StoreFieldReference}
 use Rattle.theory_promises.specs.Reachable.{Reachable}
 use Rattle.theory_promises.specs.Deeds.{Deed, aUnit, deed, after}
 use Rattle.theory_promises.specs.Plans.{deeds, asks}
@@ -82,10 +86,48 @@ MarginFor =
     (m u k n : ℕ) (cs : List Call) → Premises m u k cs → Asking n cs (formatted m u)
     → m + 1 ≤ session cs (formatted m u) .regs .count + k + 2 * cycles m u + n
 
+-- "Demand 3 from here on reads N + B - 1 for N, where B is the largest number of blocks asked for in one call"
+pub record RoomAsRead : Type 0 where
+  pub within :
+      (m u k n : ℕ) (cs : List Call) (c : Call) (ds : List Call) → Premises m u k (cs ++ (c ∷ ds)) → Asking n (cs ++ (c ∷ ds)) (formatted m u)
+      → k + 2 * (cycles m u + (n - 1)) ≤ m → does c (session cs (formatted m u)) .answer .refusal ≢ 7
+  pub further :
+      (m u k n : ℕ) (cs : List Call) → Premises m u k cs → Asking n cs (formatted m u) → k + 2 * (cycles m u + (n - 1)) ≤ m
+      → (c : Call) → asks c (session cs (formatted m u)) ≤ n → does c (session cs (formatted m u)) .answer .refusal ≢ 7
+
+abbrev pub MarginAsRead : Type 0
+MarginAsRead =
+    (m u k n : ℕ) (cs : List Call) → Premises m u k cs → Asking n cs (formatted m u)
+    → m ≤ session cs (formatted m u) .regs .count + k + 2 * (cycles m u + (n - 1))
+
+-- Allocate chain alone may ask for more
+abbrev pub Single : Call → Type 0
+Single (Format m u) = Unit {0}
+Single (Read b w) = Unit {0}
+Single (Look b) = Unit {0}
+Single (StoreNumber b w v) = Unit {0}
+Single (StoreReference b w t) = Unit {0}
+Single (SetRoot t) = Unit {0}
+Single (Allocate b w) = Unit {0}
+Single (AllocateChain b w n) = n ≤ 1
+Single (ReadField b k) = Unit {0}
+Single (StoreFieldNumber b k v) = Unit {0}
+Single (StoreFieldReference b k t) = Unit {0}
+Single (Work n) = Unit {0}
+Single Audit = Unit {0}
+
+abbrev pub Singles : List Call → Type 0
+Singles [] = Unit {0}
+Singles (c ∷ cs) = Single c × Singles cs
+
+pub record EachOne : Type 0 where
+  pub call : (c : Call) (h : Heap) → Single c → asks c h ≤ 1
+  pub calls : (cs : List Call) (h : Heap) → Singles cs → Asking 1 cs h
+
 abbrev pub RoomEnough : Type 0
 RoomEnough =
-    (m u k : ℕ) (cs : List Call) → Premises m u k cs → k + 2 * cycles m u ≤ m
+    (m u k : ℕ) (cs : List Call) → Premises m u k cs → Asking 1 cs (formatted m u) → k + 2 * cycles m u ≤ m
     → (b w : ℕ) → does (Allocate b w) (session cs (formatted m u)) .answer .refusal ≢ 7
 
 abbrev pub Margin : Type 0
-Margin = (m u k : ℕ) (cs : List Call) → Premises m u k cs → m ≤ session cs (formatted m u) .regs .count + k + 2 * cycles m u
+Margin = (m u k : ℕ) (cs : List Call) → Premises m u k cs → Asking 1 cs (formatted m u) → m ≤ session cs (formatted m u) .regs .count + k + 2 * cycles m u

@@ -5,9 +5,11 @@
 --     HandArithmetic       cases 12 and 13 of document 01
 --     closes h l           the root and whatever the blocks of l name are 0 or in l
 --     churn, works         allocations at the given holders in turn; after each at most two blocks are reachable, as a test that computes
+--     chains, chainsWork   chains of three blocks at the root; after each at most its three blocks are reachable, as a test that computes
 --     Roomy                demand 3's premises, met by 200 allocations on 20 blocks with pace 5, and what follows
+--     RoomyChains          the same with B = 3, by 60 chains on 19 blocks with pace 6: K + 2N + B - 1 is M itself
 -- Assumes nothing.
-use Prim.Native.Nat.{ℕ, _+_, _*_, _≤_}
+use Prim.Native.Nat.{ℕ, zero, suc, _+_, _-_, _*_, _≤_}
 use mathlib.Core.Path.{_≡_}
 use mathlib.Core.Logic.{_≢_}
 use mathlib.Core.Bool.{Bool, true, _&&_, _||_}
@@ -21,7 +23,8 @@ use Rattle.machine.specs.Heap.{Heap, colourOf, referencesOf}
 use Rattle.machine.specs.Answers.{Given}
 use Rattle.machine.specs.Format.{formatted}
 use Rattle.machine.specs.Session.{Call, does, session, lastOf}
-use Rattle.machine.specs.Session.Call.{StoreReference, Allocate, Work}
+use Rattle.machine.specs.Field.{fieldBlock}
+use Rattle.machine.specs.Session.Call.{StoreReference, Allocate, AllocateChain, Work}
 use Rattle.theory_promises.specs.Reachable.{Reachable, IsFree}
 use Rattle.theory_promises.specs.Deeds.{aReference, aTake, Deed, aUnit, anAct, deed, after}
 use Rattle.theory_promises.specs.Sessions.{sessionDeeds, Proper, NoBegin, FreedBy}
@@ -102,13 +105,13 @@ closes h l = within (h .regs .root) l && namesWithin h l l
 abbrev pub pair : Heap → List ℕ
 pair h = h .regs .root ∷ wordOf (h .words) (h .regs .root) 0 ∷ []
 
--- the allocation was not refused, no block but those two is reachable after it, and the rest goes as well
-unfoldable pub goesOn : Given → (Heap → Bool) → Bool
-goesOn g rest = eqb (g .answer .refusal) 0 && (closes (g .heap) (pair (g .heap)) && rest (g .heap))
+-- the call was not refused, no block but those of the list is reachable after it, and the rest goes as well
+unfoldable pub goesOn : Given → (Heap → List ℕ) → (Heap → Bool) → Bool
+goesOn g reached rest = eqb (g .answer .refusal) 0 && (closes (g .heap) (reached (g .heap)) && rest (g .heap))
 
 unfoldable pub works : List ℕ → Heap → Bool
 works [] h = true
-works (b ∷ bs) h = goesOn (does (Allocate b 0) h) (λ k. works bs k)
+works (b ∷ bs) h = goesOn (does (Allocate b 0) h) pair (λ k. works bs k)
 
 -- an allocation in word 0 of each of bs in turn, and at the root where it is 0
 abbrev pub churn : List ℕ → List Call
@@ -139,3 +142,24 @@ pub record Roomy : Type 0 where
   pub fits : 2 + 2 * cycles 20 5 ≤ 20
   pub room : (b w : ℕ) → does (Allocate b w) (session long (formatted 20 5)) .answer .refusal ≢ 7
   pub margin : 20 ≤ session long (formatted 20 5) .regs .count + 2 + 2 * cycles 20 5
+
+abbrev pub chains : ℕ → List Call
+chains zero = []
+chains (suc n) = AllocateChain 0 0 3 ∷ chains n
+
+-- the root and the two blocks that follow it in its chain
+abbrev pub trio : Heap → List ℕ
+trio h = h .regs .root ∷ fieldBlock 1 (h .regs .root) h ∷ fieldBlock 2 (h .regs .root) h ∷ []
+
+unfoldable pub chainsWork : ℕ → Heap → Bool
+chainsWork zero h = true
+chainsWork (suc n) h = goesOn (does (AllocateChain 0 0 3) h) trio (λ k. chainsWork n k)
+
+pub record RoomyChains : Type 0 where
+  pub many : length (chains 60) ≡ 60
+  pub spans : cycles 19 6 ≡ 7
+  pub premises : Premises 19 6 3 (chains 60)
+  pub asking : Asking 3 (chains 60) (formatted 19 6)
+  pub fits : 3 + 2 * cycles 19 6 + (3 - 1) ≡ 19
+  pub room : (b w : ℕ) → does (AllocateChain b w 3) (session (chains 60) (formatted 19 6)) .answer .refusal ≢ 7
+  pub margin : 19 ≤ session (chains 60) (formatted 19 6) .regs .count + 3 + 2 * cycles 19 6 + (3 - 1)

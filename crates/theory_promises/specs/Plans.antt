@@ -1,5 +1,6 @@
 -- The calls, one line for each: what a call asks for, how many units it does, and what it does then.
 --     Plan                 a call's plan on a heap
+--     formActs f b w xs n i     n of the blocks xs taken in the form f, from the block i of the form on
 --     plan c h             the plan of the call c on the heap h: the only table of the calls
 --     deedsOf p, deeds c h     the deeds of a plan and of a call: its units, then its acts
 --     workedBy p h, worked c h     the heap after its units
@@ -8,12 +9,12 @@
 -- A refused call makes nothing anew and has no acts. It asks for what it asks for all the same.
 -- What is proved of each call is `Keeps` (specs/Known.antt); nothing else looks at which call it is.
 -- Assumes nothing.
-use Prim.Native.Nat.{ℕ}
+use Prim.Native.Nat.{ℕ, zero, suc, _+_, _*_, _/_, _%_}
 use mathlib.Core.Path.{_≡_}
 use mathlib.Core.Bool.{Bool, true, false}
 use mathlib.Core.List.{List, [], _∷_, _++_, map}
 use lib.Dec.{eqb}
-use lib.ListN.{replicate}
+use lib.ListN.{getD, replicate}
 use Rattle.machine.specs.Tests.{if_then_else_, _▷_}
 use Rattle.machine.specs.Heap.{Heap}
 use Rattle.machine.specs.Entry.{entry, holderPlace}
@@ -22,9 +23,13 @@ use Rattle.machine.specs.Format.{format}
 use Rattle.machine.specs.Read.{readRefusal}
 use Rattle.machine.specs.Store.{storeRefusal, rootRefusal}
 use Rattle.machine.specs.Allocate.{unitsDue, takeRefusal}
+use Rattle.machine.specs.Several.{Form, firstFrees, takeSeveralRefusal, holderOf, byWord}
+use Rattle.machine.specs.Chain.{chain, chainLength}
+use Rattle.machine.specs.Field.{fieldBlock, fieldRefusal, fieldStoreRefusal}
 use Rattle.machine.specs.Work.{countRefusal}
 use Rattle.machine.specs.Session.{Call}
 use Rattle.machine.specs.Session.Call.{Format, Read, Look, StoreNumber, StoreReference, SetRoot, Allocate, Work, Audit}
+use Rattle.machine.specs.Session.Call.{AllocateChain, ReadField, StoreFieldNumber, StoreFieldReference}
 use Rattle.theory_promises.specs.Deeds.{Act, aNumber, aReference, aRoot, aTake, Deed, aUnit, anAct, after}
 
 pub record Plan : Type 0 where
@@ -57,6 +62,19 @@ actUnless r a = acting 0 0 (actsUnless r (a ∷ []))
 abbrev pub unitsUnless : ℕ → ℕ → ℕ → (Heap → List Act) → Heap → Plan
 unitsUnless r b n next h = acting b (if eqb r 0 then n else 0) (actsUnless r (next (run n 0 h .heap)))
 
+-- what the form fills in in x, its block i
+abbrev pub fillActs : Form → ℕ → ℕ → List Act
+fillActs f i x = map (λ w. aReference x w 0) (f .nulls i) ++ map (λ w. aNumber x w 0) (f .zeros i)
+
+-- each is taken for the block that names it, and then filled in
+unfoldable pub formActs : Form → ℕ → ℕ → List ℕ → ℕ → ℕ → List Act
+formActs f b w xs zero i = []
+formActs f b w xs (suc n) i = aTake (holderOf f b xs i) (byWord f w i) ∷ (fillActs f i (getD xs i 0) ++ formActs f b w xs n (i + 1))
+
+-- unless they are refused: the first n free blocks taken in the form f
+abbrev pub severalActs : Form → ℕ → ℕ → ℕ → Heap → List Act
+severalActs f n b w k = actsUnless (takeSeveralRefusal n b k) (formActs f b w (firstFrees n k) n 0)
+
 unfoldable pub plan : Call → Heap → Plan
 plan (Format m u) h = anewUnless (format m u h .answer .refusal)
 plan (Read b w) h = nothing 0
@@ -66,6 +84,11 @@ plan (StoreReference b w t) h = actUnless (storeRefusal b w t h) (aReference b w
 plan (SetRoot t) h = actUnless (rootRefusal t h) (aRoot t)
 plan (Allocate b w) h =
     unitsUnless (entry h ▷ holderPlace (h .regs .blocks) b w) 1 (unitsDue (h .regs)) (λ k. actsUnless (takeRefusal b k) (aTake b w ∷ [])) h
+plan (AllocateChain b w n) h =
+    unitsUnless (entry h ▷ holderPlace (h .regs .blocks) b w ▷ chainLength n) n (n * unitsDue (h .regs)) (severalActs chain n b w) h
+plan (ReadField b k) h = nothing 0
+plan (StoreFieldNumber b k v) h = actUnless (fieldRefusal b k h) (aNumber (fieldBlock (k / 7) b h) (k % 7) v)
+plan (StoreFieldReference b k t) h = actUnless (fieldStoreRefusal b k t h) (aReference (fieldBlock (k / 7) b h) (k % 7) t)
 plan (Work n) h = unitsUnless (entry h ▷ countRefusal n) 0 n (λ k. []) h
 plan Audit h = nothing 0
 
