@@ -6,6 +6,7 @@ pub mod Entering
 pub mod Refusals
 pub mod Reading
 pub mod Storing
+pub mod Fields
 pub mod Colours
 pub mod Bytes
 pub mod Steps

@@ -1,5 +1,6 @@
 -- Laws of Read and Look: one for each way out, and where a readable word, byte and part stand.
 --     place-within, index-within, part-within     they stand within the buffers
+--     word-reference, word-number     the two ways of readAnswer
 --     read-refused, read-reference, read-number     the three ways of read
 --     look-refused, look-seen     the two ways of look and lookAt
 -- Assumes nothing.
@@ -25,6 +26,15 @@ module _ {h : Heap} {b w : ℕ} (d : Readable h b w) where
 
   pub part-within : base b + 8 ≤ length (h .words)
   part-within = omega arith
+
+module _ (h : Heap) (b w : ℕ) where
+  pub word-reference : bit (byteOf (h .bytes) b) w ≡ true → (record { refusal = 0; value = wordOf (h .words) b w; units = 0; reference = 1 }) ≡ readAnswer b w h
+  unfolding readAnswer
+  word-reference t = simp t
+
+  pub word-number : bit (byteOf (h .bytes) b) w ≡ false → (record { refusal = 0; value = wordOf (h .words) b w; units = 0; reference = 0 }) ≡ readAnswer b w h
+  unfolding readAnswer
+  word-number t = simp t
 
 module _ (h : Heap) (b w n : ℕ) (e : n ≡ readRefusal b w h) where
   pub read-refused : n ≢ 0 → (record { answer = readRefused n; heap = h }) ≡ read b w h

@@ -10,6 +10,13 @@ pub const MOST_PACE: u32 = 65_535;
 
 pub const MOST_UNITS: u32 = 65_535;
 
+// An object: how many fields each of its blocks has, the word that names its next block, and the last field of the longest one.
+pub const FIELDS: u32 = 7;
+
+pub const LINK: u32 = 7;
+
+pub const LAST_FIELD: u32 = 1_791;
+
 // The phases.
 pub const IDLE: u32 = 0;
 

@@ -1,8 +1,13 @@
 // A block's words and its reference byte. The reference bytes are written by set_bit, clear_bit, clear_byte and fresh alone.
+use machine::ReadAnswer;
+use machine::Regs;
 ghost use mathlib.Core.Path.{_≡_};
-ghost use Prim.Native.Nat.{_<_};
+ghost use mathlib.Core.List.{List};
+ghost use Prim.Native.Nat.{ℕ, _*_, _<_, _≤_};
 ghost use lib.ListN.{length, replicate};
 ghost use Rattle.machine.specs.WellFormed.{Block};
+ghost use Rattle.machine.specs.Heap.{heap};
+ghost use Rattle.machine.specs.Read.{readAnswer};
 ghost use Rattle.machine.specs.Block.{bit, setBit, clearBit, clearByte, freeWords};
 
 // Whether word w holds a reference, by the block's byte.
@@ -11,6 +16,29 @@ pub fn bit(byte: u8, w: usize) -> bool
     ensures { λ r. ⌜ r ≡ bit byte w ⌝ }
 {
     (byte >> w) % 2 == 1
+}
+
+// Word w of the block b as Read answers it: the value, and whether it is a reference.
+pub fn read_word(words: &[u32], bytes: &[u8], b: u32, w: u32) -> ReadAnswer
+    requires { ⌜ (length (now words) ≡ 8 * length (now bytes)) × Block (length (now bytes)) b × (w ≤ 7) ⌝ }
+    ensures { λ x. ⌜ ((r : Regs) (cs : List ℕ) → x ≡ readAnswer b w (heap r (now (words .entry)) cs (now (bytes .entry)))) ⌝ }
+{
+    let at = b as usize - 2;
+    let value = words[8 * at + w as usize];
+    if bit(bytes[at], w as usize) {
+        return ReadAnswer {
+            refusal: 0,
+            value: value,
+            units: 0,
+            reference: 1,
+        };
+    }
+    ReadAnswer {
+        refusal: 0,
+        value: value,
+        units: 0,
+        reference: 0,
+    }
 }
 
 // Word w of the block b holds a reference.

@@ -1,0 +1,2 @@
+-- What is proved of what is found, and the functions' proofs.
+pub mod Finding

@@ -1,0 +1,2 @@
+-- What the walk answers.
+pub mod Finds
