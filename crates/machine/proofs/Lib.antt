@@ -19,6 +19,8 @@ pub mod Kept
 pub mod Formats
 pub mod Working
 pub mod Allocating
+pub mod Walking
+pub mod Serving
 pub mod Audits
 pub mod References
 pub mod Passing

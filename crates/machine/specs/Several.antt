@@ -37,7 +37,8 @@ pub record Form : Type 0 where
 abbrev pub linkOf : Heap → ℕ → ℕ
 linkOf h b = wordOf (h .words) b 0
 
-abbrev frees : ℕ → ℕ → Heap → List ℕ
+-- n blocks from b on, by their links
+unfoldable pub frees : ℕ → ℕ → Heap → List ℕ
 frees zero b h = []
 frees (suc n) b h = b ∷ frees n (linkOf h b) h
 
