@@ -20,6 +20,7 @@ pub mod Formats
 pub mod Working
 pub mod Allocating
 pub mod Walking
+pub mod Gathering
 pub mod Serving
 pub mod Audits
 pub mod References
