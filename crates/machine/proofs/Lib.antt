@@ -22,6 +22,7 @@ pub mod Allocating
 pub mod Walking
 pub mod Gathering
 pub mod Serving
+pub mod Chaining
 pub mod Audits
 pub mod References
 pub mod Passing

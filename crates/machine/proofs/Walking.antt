@@ -3,6 +3,8 @@
 --     at-frees                 the numbers of a list followed by links, by their index
 --     absent, not-absent       a number is none of the first n, by their index
 --     apart, not-apart         the first n are all different, by their indexes
+--     walks-head               what the walk establishes of its first block
+--     walks-blocks, walks-free     the blocks met are blocks and coloured free
 --     last-new, last-again     the first n + 1 are all different exactly where the last is none of the others
 -- Two equal blocks have equal links, so what follows them is equal too. Where the blocks i and j are equal, i < j ≤ n, block n
 -- equals block n - (j - i), which comes earlier: a repeat anywhere shows at the last block, and one comparison a block finds it.
@@ -16,9 +18,13 @@ use native.Mathlib.Omega.{arith}
 use lib.Dec.{eqb}
 use lib.ListN.{getD}
 use borrow.Author.Tests.{eq-eqb, ne-eqb, eqb-false}
-use Rattle.machine.specs.Heap.{Heap}
-use Rattle.machine.specs.Several.{linkOf, frees, amongst, distinct}
-use Rattle.machine.proofs.Tests.{both-true, both, by-test, clash}
+use Rattle.machine.specs.Colouring.{freeColour}
+use Rattle.machine.specs.Heap.{Heap, colourOf}
+use Rattle.machine.specs.Entry.{isBlockOrNone}
+use Rattle.machine.specs.WellFormed.{Block}
+use Rattle.machine.specs.Several.{linkOf, frees, listWalks, amongst, distinct}
+use Rattle.machine.proofs.Tests.{both-true, both, by-test, clash, differ}
+use Rattle.machine.proofs.Entering.{none-or-block}
 
 unfoldable pub onward : Heap → ℕ → ℕ → ℕ
 onward h a zero = a
@@ -88,3 +94,28 @@ module _ (h : Heap) where
   last-again n a e = by-test (distinct (frees (suc n) a h))
       (λ t. clash e (not-absent (onward h a n) n a (λ j l z. apart (suc n) a t j n l (omega arith) (sym z))))
       (λ t. t)
+
+  pub walks-head : (n a : ℕ) → listWalks (suc n) a h ≡ true
+      → (a ≢ 0) × (freeColour (colourOf h a) ≡ true) × (isBlockOrNone (h .regs .blocks) (linkOf h a) ≡ true) × (listWalks n (linkOf h a) h ≡ true)
+  unfolding listWalks
+  walks-head n a e =
+      let c = freeColour (colourOf h a) in
+      let l = isBlockOrNone (h .regs .blocks) (linkOf h a) in
+      let u = both-true (not (eqb a 0)) (c && (l && listWalks n (linkOf h a) h)) e in
+      let v = both-true c (l && listWalks n (linkOf h a) h) (u .1) in
+      let w = both-true l (listWalks n (linkOf h a) h) (v .1) in
+      (differ a 0 (u .0), v .0, w .0, w .1)
+
+  pub walks-blocks : (n a : ℕ) → listWalks n a h ≡ true → (a ≢ 0 → Block (h .regs .blocks) a) → (j : ℕ) → j < n → Block (h .regs .blocks) (onward h a j)
+  unfolding onward
+  walks-blocks zero a e b j l = absurd (omega arith)
+  walks-blocks (suc n) a e b zero l = b (walks-head n a e .0)
+  walks-blocks (suc n) a e b (suc j) l =
+      let u = walks-head n a e in
+      rw (← onward-link a j) (walks-blocks n (linkOf h a) (u .3) (none-or-block (h .regs .blocks) (linkOf h a) (u .2)) j (omega arith))
+
+  pub walks-free : (n a : ℕ) → listWalks n a h ≡ true → (j : ℕ) → j < n → freeColour (colourOf h (onward h a j)) ≡ true
+  unfolding onward
+  walks-free zero a e j l = absurd (omega arith)
+  walks-free (suc n) a e zero l = walks-head n a e .1
+  walks-free (suc n) a e (suc j) l = rw (← onward-link a j) (walks-free n (linkOf h a) (walks-head n a e .3) j (omega arith))

@@ -10,6 +10,9 @@ pub const MOST_PACE: u32 = 65_535;
 
 pub const MOST_UNITS: u32 = 65_535;
 
+// The longest chain, in blocks.
+pub const MOST_CHAIN: u32 = 256;
+
 // The phases.
 pub const IDLE: u32 = 0;
 

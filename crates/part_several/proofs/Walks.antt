@@ -1,9 +1,9 @@
 -- Laws of the walk along the first blocks of the free list, one for each way through the code, and what it establishes.
 --     fits-none, fits-not-free, fits-link     the three ways of fitsAt.
---     fits-free, fits-block, fits-next        what fits is free, is a block, and its link is 0 or one
+--     fits-block, fits-next                   what fits is a block, and its link is 0 or one
 --     walked-on, walked-off, walked-end       a step of the walk, a block that can't be taken, the end
 --     walked-last, walked-none                the walk ends at the last of n blocks exactly where all n can be taken
---     walks-blocks, walks-free, walks-within  then they are blocks, coloured free, and have their place in the word buffer
+--     walks-within             then they have their place in the word buffer
 --     last-walks, last-none    the same of the walk from the free head on;     before-last: what the search among the others asks for
 --     repeats, differs         the first n of the free list are all different exactly where the search doesn't find the last
 --     within-step              what a step of the search for a block asks for
@@ -24,13 +24,13 @@ use Rattle.machine.specs.declared.Colour.{Colour}
 use Rattle.machine.specs.Tests.{if_then_else_}
 use Rattle.machine.specs.Block.{base, wordOf}
 use Rattle.machine.specs.Colouring.{freeColour, colour, colourWord}
-use Rattle.machine.specs.Heap.{Heap, colourOf}
+use Rattle.machine.specs.Heap.{Heap}
 use Rattle.machine.specs.Entry.{isBlockOrNone}
 use Rattle.machine.specs.WellFormed.{Block}
 use Rattle.machine.specs.Several.{linkOf, frees, firstFrees, listWalks, amongst, distinct}
 use Rattle.machine.proofs.Tests.{both-true, both, by-test, clash, differ}
 use Rattle.machine.proofs.Entering.{none-or-block}
-use Rattle.machine.proofs.Walking.{onward, onward-link, last-new, last-again}
+use Rattle.machine.proofs.Walking.{onward, onward-link, walks-blocks, last-new, last-again}
 use Rattle.part_several.specs.Walk.{fitsAt, walkedTo, Within}
 
 module _ (m : ℕ) (ws cs : List ℕ) (a : ℕ) where
@@ -50,12 +50,6 @@ module _ (m : ℕ) (ws cs : List ℕ) (a : ℕ) where
   fits-link word link n w c t f l x =
       let e : freeColour (colour m (colourWord cs a)) ≡ true = rw (← w, ← c) (sym t ∙ f) in
       simp (ne-eqb a 0 n, e) (x ∙ ap (isBlockOrNone m) (l ∙ rw (add-zero (base a)) refl))
-
-  pub fits-free : fitsAt m ws cs a ≡ true → freeColour (colour m (colourWord cs a)) ≡ true
-  unfolding fitsAt
-  fits-free e =
-      let u = both-true (not (eqb a 0)) (freeColour (colour m (colourWord cs a)) && isBlockOrNone m (wordOf ws a 0)) e in
-      both-true (freeColour (colour m (colourWord cs a))) (isBlockOrNone m (wordOf ws a 0)) (u .1) .0
 
   pub fits-block : (a ≢ 0 → Block m a) → fitsAt m ws cs a ≡ true → Block m a × (wordOf ws a 0 ≢ 0 → Block m (wordOf ws a 0))
   unfolding fitsAt
@@ -110,24 +104,6 @@ module _ (h : Heap) where
   walked-none (suc n) a l e = by-test (fitsAt (h .regs .blocks) (h .words) (h .colours) a)
       (λ t. simp t (walked-none n (linkOf h a) a (simp t at (sym (walks-step n a) ∙ e))))
       (λ t. simp t)
-
-  -- the blocks met are blocks
-  pub walks-blocks : (n a : ℕ) → listWalks n a h ≡ true → (a ≢ 0 → Block (h .regs .blocks) a) → (j : ℕ) → j < n → Block (h .regs .blocks) (onward h a j)
-  unfolding onward
-  walks-blocks zero a e b j l = absurd (omega arith)
-  walks-blocks (suc n) a e b zero l =
-      let u = walks-both n a e in
-      fits-block (h .regs .blocks) (h .words) (h .colours) a b (u .0) .0
-  walks-blocks (suc n) a e b (suc j) l =
-      let u = walks-both n a e in
-      rw (← onward-link h a j) (walks-blocks n (linkOf h a) (u .1) (fits-block (h .regs .blocks) (h .words) (h .colours) a b (u .0) .1) j (omega arith))
-
-  -- they are coloured free
-  pub walks-free : (n a : ℕ) → listWalks n a h ≡ true → (j : ℕ) → j < n → freeColour (colourOf h (onward h a j)) ≡ true
-  unfolding onward
-  walks-free zero a e j l = absurd (omega arith)
-  walks-free (suc n) a e zero l = fits-free (h .regs .blocks) (h .words) (h .colours) a (walks-both n a e .0)
-  walks-free (suc n) a e (suc j) l = rw (← onward-link h a j) (walks-free n (linkOf h a) (walks-both n a e .1) j (omega arith))
 
   walks-fewer : (n a : ℕ) → listWalks (suc n) a h ≡ true → listWalks n a h ≡ true
   unfolding listWalks
