@@ -1,10 +1,10 @@
-# make            proves the library and makes the archive target/staticlib/libdergamoyne.a (minutes, the first time)
-# make check      tests it from C
-# make example    builds examples/c/list.c to target/c/list and runs it
-# make install    puts headers, archive, pkg-config file and manual page under PREFIX (by default /usr/local), below DESTDIR where one is
-#                 given
-# make uninstall  takes them away again
-# The gate, which proves and tests everything, is .ci/run.
+# make            proves the library and builds the archive target/staticlib/libdergamoyne.a (the first time it takes minutes)
+# make check      tests the library from C
+# make example    builds examples/c/list.c as target/c/list and runs it
+# make install    installs headers, archive, pkg-config file and manual page under PREFIX (/usr/local unless you set it); DESTDIR is put
+#                 before it
+# make uninstall  removes them again
+# .ci/run is the gate, which proves and tests everything.
 PREFIX ?= /usr/local
 INCLUDEDIR ?= $(PREFIX)/include
 LIBDIR ?= $(PREFIX)/lib

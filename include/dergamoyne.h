@@ -2,8 +2,8 @@
    MIT licence, see LICENSE.
 
    This header declares the bare library: the calls as they are proved, each with the record and the buffers as arguments. Most
-   programs are better off with dergamoyne_heap.h, which keeps them in one struct and is hard to misuse. It is built on this
-   header, which also explains the terms.
+   programs are better off with dergamoyne_heap.h, which is built on this header, keeps record and buffers in one struct, and is
+   hard to misuse. The terms are explained here.
 
        enum { M = 1000 };
        static uint32_t words[8 * M], colours[M];
@@ -17,51 +17,54 @@
        if (a.refusal == DERGAMOYNE_DONE)
            a = dergamoyne_store_number(&regs, LENT, a.value, 1, 42);   42 in its word 1
 
-   Test every answer. A refused Allocate has the value 0, and an Allocate with the holder 0 and the word 0 makes a new root: a
-   value that is used without looking at its refusal can let go of a whole list.
+   Test every answer. A refused Allocate has the value 0, and an Allocate with holder 0 and word 0 makes a new root. So a program
+   that uses the value without testing the refusal can lose a whole list.
 
 
    THE HEAP
 
-   It has M blocks, 1 to 16,384, whose numbers are 2 to M + 1. A block has eight words of 32 bits, 0 to 7. Each word holds a
-   number or a reference; a reference is the number of a block, or 0 for none (the null reference). The words of a new block
-   are the number 0, not the null reference. One block may be the root. The collector keeps every block that can be reached from
-   the root by references, and frees the others. It does so in small steps of bounded cost, units: U of them in each Allocate (U
-   is the pace, 0 to 65,535; with 0 the call chooses more the fewer blocks are free), and as many as you ask for in Work.
-   docs/SIZING.md tells how to choose M and U.
+   A heap has M blocks, 1 to 16,384. Their numbers are 2 to M + 1. A block has eight words of 32 bits, numbered 0 to 7. Each word
+   holds a number or a reference. A reference is the number of a block, or 0 for none (the null reference). The words of a new
+   block are the number 0, not the null reference.
+
+   One block may be the root. The collector keeps every block that can be reached from the root by references, and frees the
+   others. It works in small steps of bounded cost, called units. Each Allocate does U of them, and Work does as many as you ask
+   for. U is the pace, 0 to 65,535; with pace 0 an Allocate does more units the fewer blocks are free. docs/SIZING.md says how to
+   choose M and U.
 
    Keeping a block's number in a variable does not keep the block: store a reference to it. A block that can no longer be reached
-   is freed some time later. Once the collector is about to free it (it is then called doomed), every call that names it is
-   refused, until it is allocated again; from then on its number means the new block.
+   is freed some time later. When the collector is about to free it, the block is called doomed. From then on every call that
+   names it is refused, until the block is allocated again. After that its number means the new block.
 
 
    WHAT YOU LEND
 
-   The memory is yours: one register record, and three buffers that have exactly these lengths.
+   The memory is yours: one register record, and three buffers of exactly these lengths.
 
        words     8M of 32 bits     32 bytes a block     the blocks' words: those of block b begin at words[8 * (b - 2)]
        colours    M of 32 bits      4 bytes a block     what the collector knows of each block
        bytes      M of  8 bits      1 byte  a block     which words are references: bit w of bytes[b - 2] is for word w
 
-   That is 37M bytes and the record's 36: 37,036 bytes for 1,000 blocks, 606,244 for 16,384. A call uses them while it runs
-   and keeps no pointer: between calls a heap may be moved, copied, or saved and loaded again.
+   Together with the record's 36 bytes that is 37M + 36 bytes: 37,036 for 1,000 blocks, 606,244 for 16,384. A call uses this
+   memory while it runs and keeps no pointer to it. Between calls you may move a heap, copy it, or save it and load it again.
 
-   Only the calls should write to them. Whatever they contain when a call begins, the call stays inside them and gives a definite
-   answer, provided that nothing else writes to them while it runs. If another thread, a signal handler or another process that
-   shares the memory does, nothing is promised, not even that the call stays inside: it tests a number first and uses it later.
-   Copy memory that others can write to, and call on the copy.
+   Only the calls should write to this memory. Whatever it contains when a call starts, the call stays inside it and gives a
+   definite answer, provided that nothing else writes to it while the call runs. If another thread, a signal handler, or another
+   process that shares the memory does write to it, nothing is promised, not even that the call stays inside: a call tests a
+   number first and uses it later. If others can write to the memory, make a copy and call on the copy.
 
-   If something else has written to a heap between calls, this is all that is promised of it: a call that meets the damage
-   refuses by 2 or 8, and Audit tells whether the heap is still well-formed.
+   If something else has written to a heap between calls, only this is promised: a call that meets the damage refuses by 2 or 8,
+   and Audit tells whether the heap is still well-formed.
 
-   A refused call leaves the record as it was, but may store the same values into it again. So the record of a call that changes
-   the heap must be in memory that can be written to, even if the call will be refused.
+   A refused call leaves the record as it was, but it may store the same values again. So a record that is lent to a call by
+   pointer must be in writable memory, even if the call will be refused.
 
 
    POINTERS AND LENGTHS
 
-   A length counts elements, not bytes. Every call tests the three lengths against M, and refuses by 1 where one doesn't fit.
-   A buffer of length 0 never fits, since M is at least 1: it is refused, and nothing is read or written through its pointer.
+   A length counts elements, not bytes. Every call tests the three lengths against M and refuses by 1 if one of them doesn't fit
+   (Audit, which never refuses, has the value 0). A buffer of length 0 never fits, since M is at least 1, and nothing is read or
+   written through its pointer.
 
    A call can't test the following, so you have to ensure it: no pointer is null (not even with length 0), each is aligned for
    its type, the memory behind it is as long as you say, and no two of the record, the three buffers and Export's buffer overlap.
@@ -70,41 +73,42 @@
 
    THREADS AND SIGNALS
 
-   The library has no state of its own, allocates no memory, and makes no system calls. Two calls on different heaps may run at
-   the same time. Two calls on the same heap (its record and its three buffers) may not, whichever calls they are: protect it
-   with a lock, and don't make calls from a signal handler that may interrupt a call on the same heap.
+   The library has no state of its own, allocates no memory, and makes no system calls. Calls on different heaps may run at the
+   same time. Two calls on the same heap (its record and its three buffers) may not, not even calls that only read. Protect the
+   heap with a lock, and don't call from a signal handler that may interrupt a call on the same heap.
 
 
    THE ARCHIVE
 
-   libdergamoyne.a is for x86-64 with the System V calling convention, as on Linux. It needs `memset` from the C library and
-   nothing else. It is position-independent. It uses SSE registers, so it can't be called where they are not saved, as in a
+   libdergamoyne.a is for x86-64 with the System V calling convention, as on Linux. It is position-independent. It needs `memset`
+   from the C library and nothing else. It uses SSE registers, so it can't be called where they are not saved, for example in a
    kernel. The deepest call takes less than 512 bytes of stack.
 
-   The archive has no unwind information: a debugger or a profiler can't see the callers of a call that is running. It has no
+   The archive has no unwind information, so a debugger or a profiler can't see the callers of a call that is running. It has no
    control-flow marks (IBT, shadow stack), so a program that is linked with it doesn't have them either.
 
 
    VERSIONS
 
    DERGAMOYNE_VERSION is the version of this header, dergamoyne_version() that of the library, and dergamoyne_record_size() the
-   size of the library's record. Compare them at the start of your program; dergamoyne_heap.h does. CHANGELOG.md says what each
+   size of the library's record. Compare them when your program starts; dergamoyne_heap.h does. CHANGELOG.md says what each
    version changes.
 
-   Later versions will add registers to the record. So start with a record of zeroes, write sizeof and never 36, use the names of
-   its fields and not their order, and recompile with the header of the version that you link. You may read the fields, but
-   leave writing to the calls.
+   Later versions will add registers to the record. So start with a record of zeroes, write sizeof and never 36, use the fields
+   by name and not by order, and compile with the header of the version that you link. You may read the fields; only the calls
+   should write to them.
 
 
    WHAT IS PROVED
 
    Each function of the library is proved to give exactly the answer, the record and the buffers that a short definition says,
-   for all numbers and all contents of what it is lent (crates/dergamoyne/src/lib.rt has the statements). It is proved that on
-   a heap made by Format and changed by the calls alone nothing that can be reached is lost, and no call answers 8.
+   for all numbers and all contents of the memory that it is lent (crates/dergamoyne/src/lib.rt has the statements). On a heap
+   that Format made and only calls have changed, it is proved that nothing that can be reached is lost and that no call answers 8.
 
-   Not proved are this header, the way in which C passes arguments and results, and the compilers. These are tested: tests/c makes
-   more than 60,000 calls through this header, damaged heaps and wrong lengths among them, and compares every answer with a
-   second model's, and of 25,000 the whole heap afterwards; tests/fuzz compares millions with the same machine in plain C. */
+   This header, the way in which C passes arguments and results, and the compilers are not proved. They are tested. tests/c makes
+   more than 60,000 calls through this header, also on damaged heaps and with wrong lengths. It compares every answer with a
+   second model's, and the whole heap after 25,000 of them. tests/fuzz compares millions of calls with the same machine in
+   plain C. */
 #ifndef DERGAMOYNE_H
 #define DERGAMOYNE_H
 
@@ -115,7 +119,7 @@
 #define DERGAMOYNE_VERSION 1000u
 #define DERGAMOYNE_VERSION_TEXT "0.1.0"
 
-/* Before a function whose answer must not be ignored: the compiler warns where it is. */
+/* Marks a function whose answer must not be ignored: the compiler warns if it is. */
 #ifndef DERGAMOYNE_MUST_USE
 #if defined(__cplusplus) && __cplusplus >= 201703L
 #define DERGAMOYNE_MUST_USE [[nodiscard]]
@@ -140,30 +144,30 @@ enum {
 /* The index that a refused Look answers: past the end of every word buffer. */
 #define DERGAMOYNE_NO_INDEX 4294967295u
 
-/* REFUSALS, in the order in which they are tested. A refused call has value 0 and changes nothing, neither the record nor a
-   buffer. Two calls do units before some of their tests: of a refused Work or Allocate the units finished before the refusal
-   stand, and are counted in its answer. After 1, 2, 9, 3 and 4 there are none. */
+/* REFUSALS, in the order in which they are tested. A refused call has the value 0 and changes nothing, neither the record nor a
+   buffer, with one exception: Work and Allocate do units before some of their tests. The units that they finished before the
+   refusal stay done and are counted in the answer. With 1, 2, 9, 3 and 4 there are none. */
 enum dergamoyne_refusal {
     DERGAMOYNE_DONE = 0,           /* not refused */
-    DERGAMOYNE_DOES_NOT_FIT = 1,   /* M isn't 1 to 16,384, U is above 65,535, or a length isn't 8M, M, M. Format tests the M
-                                      and U that it is given, every other call those of the record: so a record of zeroes,
-                                      never formatted, is refused by 1 */
+    DERGAMOYNE_DOES_NOT_FIT = 1,   /* M isn't 1 to 16,384, U is above 65,535, or the lengths aren't 8M, M and M. Format tests
+                                      the M and U that it is given, every other call those of the record. So a record of
+                                      zeroes, never formatted, is refused by 1 */
     DERGAMOYNE_REGISTERS = 2,      /* the record is not legal: something else has written to it. Format doesn't test this */
     DERGAMOYNE_TOO_MANY_UNITS = 9, /* Work: n is above 65,535 */
-    DERGAMOYNE_NO_SUCH_WORD = 3,   /* the block is not 2 to M + 1, or the word is above 7. Allocate also takes block 0, but
+    DERGAMOYNE_NO_SUCH_WORD = 3,   /* the block is not 2 to M + 1, or the word is above 7. Allocate also accepts block 0, but
                                       only with word 0 */
     DERGAMOYNE_NO_SUCH_TARGET = 4, /* the target is neither 0 nor 2 to M + 1 */
-    DERGAMOYNE_DAMAGE = 8,         /* a colour or a link that was met is outside the layout: something else has written to
-                                      the buffers */
+    DERGAMOYNE_DAMAGE = 8,         /* the call met a colour or a link that can't be: something else has written to the
+                                      buffers */
     DERGAMOYNE_BLOCK_GONE = 5,     /* the block to read or write is free or doomed */
     DERGAMOYNE_TARGET_GONE = 6,    /* the target is free or doomed */
     DERGAMOYNE_NO_FREE_BLOCK = 7,  /* Allocate: no block is free */
 
-    /* Those that dergamoyne_heap.h gives besides. The library itself never answers them. */
-    DERGAMOYNE_NO_MEMORY = 100,      /* malloc gave none */
-    DERGAMOYNE_OTHER_VERSION = 101,  /* the library is of another version than this header */
-    DERGAMOYNE_NOT_A_NUMBER = 102,   /* a number was asked for, and the word holds a reference */
-    DERGAMOYNE_NOT_A_REFERENCE = 103 /* a reference was asked for, and the word holds a number */
+    /* Only dergamoyne_heap.h returns these. The library itself never answers them. */
+    DERGAMOYNE_NO_MEMORY = 100,      /* there is no memory for the heap */
+    DERGAMOYNE_OTHER_VERSION = 101,  /* the library and this header have different versions */
+    DERGAMOYNE_NOT_A_NUMBER = 102,   /* a number was asked for, but the word holds a reference */
+    DERGAMOYNE_NOT_A_REFERENCE = 103 /* a reference was asked for, but the word holds a number */
 };
 
 /* The register record. */
@@ -171,48 +175,48 @@ struct dergamoyne_regs {
     uint32_t blocks;   /* M */
     uint32_t pace;     /* U */
     uint32_t phase;    /* of the collector: 0 idle, 1 marking, 2 sweeping */
-    uint32_t grey;     /* the first block of the grey list, 1 when none */
-    uint32_t free;     /* the first free block, 0 when none */
+    uint32_t grey;     /* the first block of the grey list, 1 if there is none */
+    uint32_t free;     /* the first free block, 0 if there is none; how many are free is in count */
     uint32_t count;    /* how many blocks are free */
-    uint32_t position; /* where the sweep stands, 0 when not sweeping */
-    uint32_t root;     /* the root, 0 when none */
-    uint32_t cycle;    /* how many cycles were begun; after 4,294,967,295 comes 0 */
+    uint32_t position; /* the block that the sweep looks at next, 0 when not sweeping */
+    uint32_t root;     /* the root, 0 if there is none */
+    uint32_t cycle;    /* how many cycles have begun; after 4,294,967,295 comes 0 */
 };
 
-/* What most calls answer: a refusal or 0; a value, 0 where the call has none or is refused; and the units done. */
+/* What most calls answer: a refusal or 0; a value, 0 if the call has none or is refused; and the units done. */
 struct dergamoyne_answer {
     uint32_t refusal, value, units;
 };
 
-/* What Read answers: besides, reference is 1 for a word that holds a reference, else 0. Its units are 0. */
+/* What Read answers: the same, and reference, which is 1 if the word holds a reference, else 0. The units are 0. */
 struct dergamoyne_read_answer {
     uint32_t refusal, value, units, reference;
 };
 
-/* What Look answers: a refusal or 0, and the index in words of the block's first word, DERGAMOYNE_NO_INDEX where it is
+/* What Look answers: a refusal or 0, and the index in words of the block's first word, or DERGAMOYNE_NO_INDEX if it is
    refused. */
 struct dergamoyne_look_answer {
     uint32_t refusal, at;
 };
 
-/* Why an export is not complete, in the order in which it is tested before each row. */
+/* Why an export is not complete, in the order in which this is tested before each row. */
 enum dergamoyne_reason {
     DERGAMOYNE_COMPLETE = 0,
-    DERGAMOYNE_CIRCLE = 1,      /* there are M rows, and a block more: the list runs in a circle. With a record that was never
-                                   formatted, M is 0, and this is the reason before the first row */
+    DERGAMOYNE_CIRCLE = 1,      /* the list goes on after M rows, so it runs in a circle. In a record that was never formatted
+                                   M is 0, and this is the reason before the first row */
     DERGAMOYNE_NO_ROOM = 2,     /* the next row doesn't fit the buffer */
     DERGAMOYNE_REFUSED = 3,     /* Read refuses the link word of the next block; refusal has the number */
     DERGAMOYNE_NO_REFERENCE = 4 /* the link word of the next block holds a number */
 };
 
-/* What Export answers: complete is 1 or 0; the rows written, either way; the reason; and Read's refusal with reason 3,
-   else 0. */
+/* What Export answers: complete, 1 or 0; the number of rows written, in either case; the reason; and with reason 3 Read's
+   refusal, else 0. */
 struct dergamoyne_export_answer {
     uint32_t complete, rows, reason, refusal;
 };
 
-/* These don't compile where the compiler lays the structs out otherwise than the library does. They say nothing of a library of
-   another version: dergamoyne_record_size() does. */
+/* These don't compile if the compiler lays the structs out differently from this version of the library. They can't detect a
+   library of another version; dergamoyne_record_size() does that. */
 typedef char dergamoyne_regs_is_36_bytes[sizeof(struct dergamoyne_regs) == 36 ? 1 : -1];
 typedef char dergamoyne_answer_is_12_bytes[sizeof(struct dergamoyne_answer) == 12 ? 1 : -1];
 typedef char dergamoyne_read_answer_is_16_bytes[sizeof(struct dergamoyne_read_answer) == 16 ? 1 : -1];
@@ -220,88 +224,91 @@ typedef char dergamoyne_look_answer_is_8_bytes[sizeof(struct dergamoyne_look_ans
 typedef char dergamoyne_export_answer_is_16_bytes[sizeof(struct dergamoyne_export_answer) == 16 ? 1 : -1];
 typedef char dergamoyne_length_is_8_bytes[sizeof(size_t) == 8 ? 1 : -1];
 
-/* The version of the library, as DERGAMOYNE_VERSION has that of this header. */
+/* The version of the library, to be compared with DERGAMOYNE_VERSION. */
 DERGAMOYNE_MUST_USE uint32_t dergamoyne_version(void);
 
-/* The size of the library's record in bytes, which has to be sizeof(struct dergamoyne_regs). */
+/* The size of the library's record in bytes, to be compared with sizeof(struct dergamoyne_regs). */
 DERGAMOYNE_MUST_USE uint32_t dergamoyne_record_size(void);
 
 
-/* ALL THE TIME. Each costs the same on a heap of any size; Allocate besides its units, of which each does. */
+/* CALLS THAT YOU USE ALL THE TIME. The cost of each is constant, whatever the size of the heap. Allocate also does its units, each
+   of which has a constant cost too. */
 
-/* Allocate: does its units, takes the first free block, and stores a reference to it: in word w of the block b, or with b and
-   w 0 as the root. The value is the new block. Its words are the number 0: in a list's last row make the link the null reference
-   by Store reference. What was in the word, or was the root, is replaced. Refusals: 1, 2, 3; then, after the units, 8, 5, 7 (and
-   8 where a unit meets damage). After 7, make something unreachable, give the collector time by Work, and try again; how to see
-   to it that 7 never comes is in docs/SIZING.md. */
+/* Allocate: does its units, takes the first free block, and stores a reference to it in word w of the block b. If b and w are 0,
+   the new block becomes the root. The value is the new block. The reference replaces what was in the word, or the old root. The
+   words of the new block are the number 0, so in the last row of a list use Store reference to make the link the null reference.
+   Refusals: 1, 2, 3; then, after the units, 8, 5, 7 (and 8 if a unit meets damage). After 7, make something unreachable, call
+   Work to give the collector time, and try again. docs/SIZING.md says how to make sure that 7 never comes. */
 DERGAMOYNE_MUST_USE struct dergamoyne_answer dergamoyne_allocate(
     struct dergamoyne_regs *regs, uint32_t *words, size_t words_length, uint32_t *colours, size_t colours_length,
     uint8_t *bytes, size_t bytes_length, uint32_t b, uint32_t w);
 
-/* Read: the value is word w of the block b, and reference says whether it is one. Refusals: 1, 2, 3, 8, 5. It changes
-   nothing. */
+/* Read: the value is word w of the block b, and reference says whether the word holds a reference. It changes nothing.
+   Refusals: 1, 2, 3, 8, 5. */
 DERGAMOYNE_MUST_USE struct dergamoyne_read_answer dergamoyne_read(
     struct dergamoyne_regs regs, const uint32_t *words, size_t words_length, const uint32_t *colours,
     size_t colours_length, const uint8_t *bytes, size_t bytes_length, uint32_t b, uint32_t w);
 
-/* Store number: word w of the block b becomes the number v, any number; what was there is replaced. The record stays as it
-   is. Refusals: 1, 2, 3, 8, 5. */
+/* Store number: word w of the block b becomes the number v, which may be any number. The record stays as it is.
+   Refusals: 1, 2, 3, 8, 5. */
 DERGAMOYNE_MUST_USE struct dergamoyne_answer dergamoyne_store_number(
     struct dergamoyne_regs *regs, uint32_t *words, size_t words_length, uint32_t *colours, size_t colours_length,
     uint8_t *bytes, size_t bytes_length, uint32_t b, uint32_t w, uint32_t v);
 
-/* Store reference: word w of the block b becomes a reference to the block t, or with t 0 the reference to none; what was there
-   is replaced. The collector sees to it that t is kept. Refusals: 1, 2, 3, 4; 8 and 5 for b; 8 and 6 for t. */
+/* Store reference: word w of the block b becomes a reference to the block t, or the null reference if t is 0. The
+   collector keeps t as long as t can be reached from the root. Refusals: 1, 2, 3, 4; 8 and 5 for b; 8 and 6 for t. */
 DERGAMOYNE_MUST_USE struct dergamoyne_answer dergamoyne_store_reference(
     struct dergamoyne_regs *regs, uint32_t *words, size_t words_length, uint32_t *colours, size_t colours_length,
     uint8_t *bytes, size_t bytes_length, uint32_t b, uint32_t w, uint32_t t);
 
-/* Look: where the eight words of the block b stand, to be read from words[at] to words[at + 7] without a call for each. It
-   refuses where Read of word 0 would: 1, 2, 3, 8, 5. at is then DERGAMOYNE_NO_INDEX, so that words[at] faults where an index 0
-   would read another block; test the refusal all the same, since at + 1 in 32 bits is 0. It changes nothing. The place of a
-   block never changes; after an Allocate or a Work, ask again whether it may be read. */
+/* Look: where the eight words of the block b are, so that you can read words[at] to words[at + 7] without a call for each. It
+   changes nothing. It refuses if Read of word 0 would: 1, 2, 3, 8, 5. Then at is DERGAMOYNE_NO_INDEX, so that words[at] faults;
+   with an index 0 it would read another block. Test the refusal all the same, since at + 1 in 32 bits is 0. A block's place never
+   changes, but after an Allocate or a Work ask again whether it may be read. */
 DERGAMOYNE_MUST_USE struct dergamoyne_look_answer dergamoyne_look(
     struct dergamoyne_regs regs, const uint32_t *words, size_t words_length, const uint32_t *colours,
     size_t colours_length, const uint8_t *bytes, size_t bytes_length, uint32_t b);
 
 
-/* NOW AND THEN */
+/* CALLS FOR NOW AND THEN */
 
-/* Set root: the root becomes the block t, or none with t 0. What only the old root reached is let go. Refusals: 1, 2, 4, 8, 6.
-   Its cost is constant. */
+/* Set root: the block t becomes the root; if t is 0, there is no root any more. Blocks that only the old root reached are let go.
+   Its cost is constant. Refusals: 1, 2, 4, 8, 6. */
 DERGAMOYNE_MUST_USE struct dergamoyne_answer dergamoyne_set_root(
     struct dergamoyne_regs *regs, uint32_t *words, size_t words_length, uint32_t *colours, size_t colours_length,
     uint8_t *bytes, size_t bytes_length, uint32_t t);
 
-/* Work: n units, n at most 65,535, for when there is time. A cycle of the collector is 2 + M units and one more for each block
-   that it marks; what can't be reached when a cycle begins has been freed by its end, unless you store a reference to it
-   meanwhile. Refusals: 1, 2, 9; 8 where a unit meets damage, the units before it standing. */
+/* Work: does n units, at most 65,535, when your program has time. A cycle of the collector has 2 + M units and one more for each
+   block that it marks. A block that can't be reached when a cycle begins has been freed by its end, unless a store or a root
+   change named an unreachable block in the meantime. Refusals: 1, 2, 9; 8 if a unit meets damage, and then the units before it
+   stay done. */
 DERGAMOYNE_MUST_USE struct dergamoyne_answer dergamoyne_work(
     struct dergamoyne_regs *regs, uint32_t *words, size_t words_length, uint32_t *colours, size_t colours_length,
     uint8_t *bytes, size_t bytes_length, uint32_t n);
 
-/* Export: the list that starts at the block start and goes on by the reference in word link of each block is written to the
-   buffer out, a row of eight words for each block, in order; the reference 0 ends it, and start 0 is the empty list. The
-   answer is complete with the number of rows, or it is not, with the number of rows that were written before it stopped, and
-   the reason. Of out exactly these rows are written, either way; the heap and the record stay. out_length may be anything: M
-   rows, 8M words, are always enough. The cost goes with the rows. */
+/* Export: writes a list to the buffer out, in order, a row of eight words for each block. The list starts at the block start and
+   goes on by the reference in word link of each block. The null reference ends it, and start 0 is the empty list. Either the
+   answer is complete, with the number of rows. Or it is not complete, with the number of rows that were written before it stopped,
+   and the reason. In both cases exactly these rows of out are written. The heap and the record stay as they are. out_length counts
+   words and may be anything; 8M, which is M rows, is always enough. The cost grows with the number of rows. */
 DERGAMOYNE_MUST_USE struct dergamoyne_export_answer dergamoyne_export(
     struct dergamoyne_regs regs, const uint32_t *words, size_t words_length, const uint32_t *colours,
     size_t colours_length, const uint8_t *bytes, size_t bytes_length, uint32_t *out, size_t out_length, uint32_t start,
     uint32_t link);
 
 
-/* ONCE, OR SELDOM. Their cost goes with M. */
+/* CALLS THAT YOU USE ONCE, OR SELDOM. Their cost grows with M. */
 
-/* Format: a heap of M blocks, all free, at pace U, whatever the record and the buffers were before: no root, the collector
-   idle, cycle 0. The lengths must be those of m. Refusal: 1, and then the old heap is as it was. */
+/* Format: makes a heap of m blocks with the pace u, whatever the record and the buffers contained. All blocks are free, there is
+   no root, the collector is idle, and the cycle number is 0. The lengths must fit m. Refusal: 1, and then the old heap is as it
+   was. */
 DERGAMOYNE_MUST_USE struct dergamoyne_answer dergamoyne_format(
     struct dergamoyne_regs *regs, uint32_t *words, size_t words_length, uint32_t *colours, size_t colours_length,
     uint8_t *bytes, size_t bytes_length, uint32_t m, uint32_t u);
 
-/* Audit: the value is 1 for a well-formed heap, else 0. Every heap that Format made and that was changed by the calls alone
-   is; where the value is 0, something else has written to it, or a length doesn't fit: dergamoyne_check of
-   dergamoyne_heap.h tells which. It never refuses and changes nothing. */
+/* Audit: the value is 1 if the heap is well-formed, else 0. It never refuses and changes nothing. Every heap that Format made and
+   only calls have changed is well-formed. If the value is 0, something else has written to the heap, or a length doesn't fit;
+   dergamoyne_check in dergamoyne_heap.h tells which. */
 DERGAMOYNE_MUST_USE struct dergamoyne_answer dergamoyne_audit(
     struct dergamoyne_regs regs, const uint32_t *words, size_t words_length, const uint32_t *colours,
     size_t colours_length, const uint8_t *bytes, size_t bytes_length);

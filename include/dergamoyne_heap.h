@@ -1,5 +1,5 @@
-/* Dergamoyne in one struct: the calls of dergamoyne.h over a heap that has its record and its buffers together, hard to misuse.
-   For C99 and C++. Everything here is static inline, and there is no state but the struct. MIT licence, see LICENSE.
+/* Dergamoyne in one struct: the calls of dergamoyne.h on a heap that keeps its record and its buffers together. This layer is hard
+   to misuse. It is for C99 and C++. Everything in it is static inline, and its only state is the struct. MIT licence, see LICENSE.
 
        struct dergamoyne_heap heap;
        uint32_t first, second, number;
@@ -8,7 +8,7 @@
            || dergamoyne_heap_new_block(&heap, first, 0, &second)      a block, held by word 0 of the first
            || dergamoyne_heap_store_number(&heap, second, 1, 42)
            || dergamoyne_heap_read_number(&heap, second, 1, &number))
-           ..                                                          one of them was refused
+           return 1;                                                   one of them was refused
        dergamoyne_heap_close(&heap);
 
    dergamoyne.h explains the terms (block, word, reference, root, unit), what is promised, and what you have to ensure.
@@ -18,10 +18,10 @@
 
    - A function that can be refused returns the refusal, or 0 (DERGAMOYNE_DONE). The compiler warns if you ignore it. Results go
      to out parameters, which a refusal leaves alone.
-   - A 0 can't be taken for a block. There are separate functions for a new root and a new block, for a reference and the null
-     reference, for setting the root and clearing it; a holder 0 is refused by 3, a target 0 by 4.
-   - An export that is not complete does not tell a number of rows.
-   - Opening a heap tests that this header and the library are of the same version. */
+   - A 0 can't be mistaken for a block. A new root and a new block, a reference and the null reference, setting the root and
+     clearing it each have their own function. A holder 0 is refused by 3, a target 0 by 4.
+   - An export that is not complete gives no number of rows.
+   - Opening a heap tests that this header and the library have the same version. */
 #ifndef DERGAMOYNE_HEAP_H
 #define DERGAMOYNE_HEAP_H
 
@@ -29,8 +29,8 @@
 #include <stdlib.h>
 #include <string.h>
 
-/* A heap: its record, its buffers with their lengths, and the memory that it owns, NULL where it was lent. Leave the fields to
-   the functions below, and don't go on with a copy beside the original: the two records would be of the same buffers. */
+/* A heap: its record, its buffers with their lengths, and the memory that it owns, or NULL if the memory was lent. Leave the fields
+   to the functions below. Don't use a copy of the struct beside the original: both records would be about the same buffers. */
 struct dergamoyne_heap {
     struct dergamoyne_regs regs;
     uint32_t *words, *colours;
@@ -46,7 +46,7 @@ enum dergamoyne_phase { DERGAMOYNE_IDLE = 0, DERGAMOYNE_MARKING = 1, DERGAMOYNE_
 #define DERGAMOYNE_LENT h->words, h->words_length, h->colours, h->colours_length, h->bytes, h->bytes_length
 
 
-/* IN WORDS: of a refusal, and of an export's reason. */
+/* IN WORDS: what a refusal means, and an export's reason. */
 
 static inline const char *dergamoyne_refusal_text(uint32_t refusal)
 {
@@ -105,7 +105,7 @@ static inline const char *dergamoyne_reason_text(uint32_t reason)
 
 /* OPENING AND CLOSING */
 
-/* No heap: every call on it is refused by 1. Its pointers are not null, since the library takes none that are. */
+/* Makes *h no heap: every call on it is refused by 1. Its pointers are not null, because the library doesn't accept null. */
 static inline void dergamoyne_heap_none(struct dergamoyne_heap *h)
 {
     memset(h, 0, sizeof *h);
@@ -113,7 +113,7 @@ static inline void dergamoyne_heap_none(struct dergamoyne_heap *h)
     h->bytes = (uint8_t *)&h->regs;
 }
 
-/* Refused by 101 unless this header and the library are of the same version. */
+/* Refused by 101 unless this header and the library have the same version. */
 DERGAMOYNE_REFUSABLE dergamoyne_heap_version_(void)
 {
     if (dergamoyne_version() != DERGAMOYNE_VERSION || dergamoyne_record_size() != sizeof(struct dergamoyne_regs))
@@ -121,7 +121,7 @@ DERGAMOYNE_REFUSABLE dergamoyne_heap_version_(void)
     return DERGAMOYNE_DONE;
 }
 
-/* The heap of this record, in these buffers. */
+/* Makes *h the heap with this record, in these buffers. */
 static inline void dergamoyne_heap_place_(struct dergamoyne_heap *h, struct dergamoyne_regs regs, uint32_t *words,
                                           size_t words_length, uint32_t *colours, size_t colours_length, uint8_t *bytes,
                                           size_t bytes_length)
@@ -132,8 +132,8 @@ static inline void dergamoyne_heap_place_(struct dergamoyne_heap *h, struct derg
     h->bytes = bytes, h->bytes_length = bytes_length;
 }
 
-/* A heap of so many blocks in memory of yours, all blocks free. Each length counts elements: 8 * blocks, blocks and blocks.
-   The memory must remain while the heap is used. Refusals: 1, 101. */
+/* Opens a heap in your own memory, with all blocks free. The lengths count elements: 8 * blocks, blocks and blocks. The memory must
+   stay there as long as the heap is used. Refusals: 1, 101. */
 DERGAMOYNE_REFUSABLE dergamoyne_heap_lend(struct dergamoyne_heap *h, uint32_t blocks, uint32_t pace, uint32_t *words,
                                           size_t words_length, uint32_t *colours, size_t colours_length, uint8_t *bytes,
                                           size_t bytes_length)
@@ -150,8 +150,8 @@ DERGAMOYNE_REFUSABLE dergamoyne_heap_lend(struct dergamoyne_heap *h, uint32_t bl
     return (enum dergamoyne_refusal)a.refusal;
 }
 
-/* A heap of 1 to 16,384 blocks that owns its memory, 37 bytes a block; the pace is 0 to 65,535. Close it when done; one that
-   was refused need not be closed. Refusals: 1, 100, 101. */
+/* Opens a heap of 1 to 16,384 blocks that owns its memory, 37 bytes a block. The pace is 0 to 65,535. Close the heap when you are
+   done. If opening is refused, there is nothing to close. Refusals: 1, 100, 101. */
 DERGAMOYNE_REFUSABLE dergamoyne_heap_open(struct dergamoyne_heap *h, uint32_t blocks, uint32_t pace)
 {
     enum dergamoyne_refusal refusal;
@@ -171,7 +171,7 @@ DERGAMOYNE_REFUSABLE dergamoyne_heap_open(struct dergamoyne_heap *h, uint32_t bl
     return refusal;
 }
 
-/* Gives back what the heap owns. */
+/* Frees the memory that the heap owns. */
 static inline void dergamoyne_heap_close(struct dergamoyne_heap *h)
 {
     free(h->memory);
@@ -179,10 +179,10 @@ static inline void dergamoyne_heap_close(struct dergamoyne_heap *h)
 }
 
 
-/* NEW BLOCKS. Each first does the collector's units. Refusals: 1, 2, 3; 8, 5, 7. After 7 nothing that you hold was lost: see
-   docs/TROUBLE.md. */
+/* NEW BLOCKS. Each of these first does the collector's units. Refusals: 1, 2, 3; 8, 5, 7. With 7 nothing that the root reaches is
+   lost; see docs/TROUBLE.md. */
 
-/* Allocate with these numbers; the block goes to *block where it isn't refused. */
+/* Allocate with these numbers. Unless it is refused, the block goes to *block. */
 DERGAMOYNE_REFUSABLE dergamoyne_heap_allocate_(struct dergamoyne_heap *h, uint32_t holder, uint32_t word, uint32_t *block)
 {
     struct dergamoyne_answer a = dergamoyne_allocate(&h->regs, DERGAMOYNE_LENT, holder, word);
@@ -191,7 +191,7 @@ DERGAMOYNE_REFUSABLE dergamoyne_heap_allocate_(struct dergamoyne_heap *h, uint32
     return (enum dergamoyne_refusal)a.refusal;
 }
 
-/* A new block that is the root. What only the old root reached is let go. */
+/* A new block, which becomes the root. Blocks that only the old root reached are let go. */
 DERGAMOYNE_REFUSABLE dergamoyne_heap_new_root(struct dergamoyne_heap *h, uint32_t *block)
 {
     return dergamoyne_heap_allocate_(h, 0, 0, block);
@@ -204,7 +204,7 @@ DERGAMOYNE_REFUSABLE dergamoyne_heap_new_block(struct dergamoyne_heap *h, uint32
 }
 
 
-/* WORDS. Refusals: 1, 2, 3, 8, 5; of a target besides 4, 6. */
+/* WORDS. Refusals: 1, 2, 3, 8, 5; with a target also 4 and 6. */
 
 /* The value of a word, and whether it is a reference: 1 or 0. */
 DERGAMOYNE_REFUSABLE dergamoyne_heap_read(const struct dergamoyne_heap *h, uint32_t block, uint32_t word, uint32_t *value,
@@ -218,7 +218,7 @@ DERGAMOYNE_REFUSABLE dergamoyne_heap_read(const struct dergamoyne_heap *h, uint3
     return (enum dergamoyne_refusal)a.refusal;
 }
 
-/* A number. Refused by 102 where the word holds a reference. */
+/* The number in a word. Refused by 102 if the word holds a reference. */
 DERGAMOYNE_REFUSABLE dergamoyne_heap_read_number(const struct dergamoyne_heap *h, uint32_t block, uint32_t word,
                                                  uint32_t *number)
 {
@@ -231,7 +231,7 @@ DERGAMOYNE_REFUSABLE dergamoyne_heap_read_number(const struct dergamoyne_heap *h
     return DERGAMOYNE_DONE;
 }
 
-/* The block that a reference names, 0 for the null reference. Refused by 103 where the word holds a number. */
+/* The block that the reference in a word names, 0 for the null reference. Refused by 103 if the word holds a number. */
 DERGAMOYNE_REFUSABLE dergamoyne_heap_read_reference(const struct dergamoyne_heap *h, uint32_t block, uint32_t word,
                                                     uint32_t *target)
 {
@@ -244,7 +244,7 @@ DERGAMOYNE_REFUSABLE dergamoyne_heap_read_reference(const struct dergamoyne_heap
     return DERGAMOYNE_DONE;
 }
 
-/* The eight words of a block themselves, to be read and not written, until the next call that changes the heap. */
+/* A pointer to the eight words of a block. You may read them, but not write to them, until the next call that changes the heap. */
 DERGAMOYNE_REFUSABLE dergamoyne_heap_look(const struct dergamoyne_heap *h, uint32_t block, const uint32_t **words)
 {
     struct dergamoyne_look_answer a = dergamoyne_look(h->regs, DERGAMOYNE_LENT, block);
@@ -253,6 +253,7 @@ DERGAMOYNE_REFUSABLE dergamoyne_heap_look(const struct dergamoyne_heap *h, uint3
     return (enum dergamoyne_refusal)a.refusal;
 }
 
+/* The word becomes the number. */
 DERGAMOYNE_REFUSABLE dergamoyne_heap_store_number(struct dergamoyne_heap *h, uint32_t block, uint32_t word, uint32_t number)
 {
     return (enum dergamoyne_refusal)dergamoyne_store_number(&h->regs, DERGAMOYNE_LENT, block, word, number).refusal;
@@ -272,7 +273,7 @@ DERGAMOYNE_REFUSABLE dergamoyne_heap_store_null(struct dergamoyne_heap *h, uint3
     return (enum dergamoyne_refusal)dergamoyne_store_reference(&h->regs, DERGAMOYNE_LENT, block, word, 0).refusal;
 }
 
-/* The block `target` becomes the root. What only the old root reached is let go. */
+/* The block `target` becomes the root. Blocks that only the old root reached are let go. */
 DERGAMOYNE_REFUSABLE dergamoyne_heap_set_root(struct dergamoyne_heap *h, uint32_t target)
 {
     if (target == 0)
@@ -280,16 +281,16 @@ DERGAMOYNE_REFUSABLE dergamoyne_heap_set_root(struct dergamoyne_heap *h, uint32_
     return (enum dergamoyne_refusal)dergamoyne_set_root(&h->regs, DERGAMOYNE_LENT, target).refusal;
 }
 
-/* No root any more: everything is let go. */
+/* There is no root any more, so every block is let go. */
 DERGAMOYNE_REFUSABLE dergamoyne_heap_clear_root(struct dergamoyne_heap *h)
 {
     return (enum dergamoyne_refusal)dergamoyne_set_root(&h->regs, DERGAMOYNE_LENT, 0).refusal;
 }
 
 
-/* LISTS. A list is blocks that each name the next in the same word, `link`; the null reference ends it. */
+/* LISTS. In a list each block names the next in the same word, `link`. The null reference ends the list. */
 
-/* A new block whose word `link` is the null reference, so that it is a list of one row: as the root. */
+/* A new block, which becomes the root. Its word `link` is the null reference, so it is a list of one row. */
 DERGAMOYNE_REFUSABLE dergamoyne_heap_first_row(struct dergamoyne_heap *h, uint32_t link, uint32_t *row)
 {
     enum dergamoyne_refusal refusal = DERGAMOYNE_NO_SUCH_WORD;
@@ -303,7 +304,8 @@ DERGAMOYNE_REFUSABLE dergamoyne_heap_first_row(struct dergamoyne_heap *h, uint32
     return refusal;
 }
 
-/* The same, held by word `word` of the block `holder`: with the last row and its link word it is the list's next row. */
+/* The same, but held by word `word` of the block `holder`. With a list's last row as the holder and its link as the word, the new
+   block is the list's next row. */
 DERGAMOYNE_REFUSABLE dergamoyne_heap_new_row(struct dergamoyne_heap *h, uint32_t holder, uint32_t word, uint32_t link,
                                              uint32_t *row)
 {
@@ -318,10 +320,10 @@ DERGAMOYNE_REFUSABLE dergamoyne_heap_new_row(struct dergamoyne_heap *h, uint32_t
     return refusal;
 }
 
-/* The rows of the list from the block `start` on, where 0 is the empty list, to `out`, which has room for so many. Returns
-   DERGAMOYNE_COMPLETE, and then *rows is how many there are. Else the list is not complete, the reason is returned, and *rows is
-   left alone; *details, which may be NULL, has the rows that were written before it stopped, and Read's refusal with
-   DERGAMOYNE_REFUSED. */
+/* Writes the list that starts at the block `start` to `out`, which has room for `room` rows. Start 0 is the empty list. Returns
+   DERGAMOYNE_COMPLETE if the list is complete; then *rows is the number of its rows. Otherwise it returns the reason and leaves
+   *rows alone. Unless `details` is NULL, *details then has the number of rows that were written before it stopped and, with
+   DERGAMOYNE_REFUSED, Read's refusal. */
 DERGAMOYNE_MUST_USE static inline enum dergamoyne_reason
 dergamoyne_heap_export(const struct dergamoyne_heap *h, uint32_t start, uint32_t link, uint32_t (*out)[DERGAMOYNE_BLOCK_WORDS],
                        size_t room, uint32_t *rows, struct dergamoyne_export_answer *details)
@@ -340,14 +342,14 @@ dergamoyne_heap_export(const struct dergamoyne_heap *h, uint32_t start, uint32_t
 
 /* THE COLLECTOR */
 
-/* So many units, at most 65,535. Refusals: 1, 2, 9; 8. */
+/* Does this many units, at most 65,535. Refusals: 1, 2, 9; 8. */
 DERGAMOYNE_REFUSABLE dergamoyne_heap_work(struct dergamoyne_heap *h, uint32_t units)
 {
     return (enum dergamoyne_refusal)dergamoyne_work(&h->regs, DERGAMOYNE_LENT, units).refusal;
 }
 
-/* Frees everything that can't be reached: the cycle that runs is ended, and then a whole one is done. Its cost goes with the
-   number of blocks. Refusals: 1, 2; 8. */
+/* Frees everything that can't be reached: it finishes the running cycle and then does a whole one. The cost grows with the number
+   of blocks. Refusals: 1, 2; 8. */
 DERGAMOYNE_REFUSABLE dergamoyne_heap_collect(struct dergamoyne_heap *h)
 {
     uint32_t cycle = h->regs.blocks <= DERGAMOYNE_MOST_BLOCKS ? 2 * h->regs.blocks + 2 : 0;
@@ -356,7 +358,7 @@ DERGAMOYNE_REFUSABLE dergamoyne_heap_collect(struct dergamoyne_heap *h)
 }
 
 
-/* HOW IT STANDS */
+/* THE STATE OF THE HEAP */
 
 static inline uint32_t dergamoyne_heap_blocks(const struct dergamoyne_heap *h)
 {
@@ -368,13 +370,13 @@ static inline uint32_t dergamoyne_heap_free_blocks(const struct dergamoyne_heap 
     return h->regs.count;
 }
 
-/* Those that are reached, and those that wait to be freed. */
+/* The blocks that can be reached, and the garbage that is not freed yet. */
 static inline uint32_t dergamoyne_heap_allocated_blocks(const struct dergamoyne_heap *h)
 {
     return h->regs.blocks - h->regs.count;
 }
 
-/* 0 where there is none. */
+/* 0 if there is none. */
 static inline uint32_t dergamoyne_heap_root(const struct dergamoyne_heap *h)
 {
     return h->regs.root;
@@ -385,15 +387,15 @@ static inline enum dergamoyne_phase dergamoyne_heap_phase(const struct dergamoyn
     return (enum dergamoyne_phase)h->regs.phase;
 }
 
-/* How many cycles of the collector were begun; after 4,294,967,295 comes 0. */
+/* How many cycles of the collector have begun; after 4,294,967,295 comes 0. */
 static inline uint32_t dergamoyne_heap_cycles(const struct dergamoyne_heap *h)
 {
     return h->regs.cycle;
 }
 
-/* Tests the whole heap; its cost goes with the number of blocks. Returns 0 for a well-formed heap; 1 where the number of blocks,
-   the pace or a length doesn't fit, which may be a length in bytes for one in elements; 2 where a register is wrong; 8 where the
-   contents of the buffers are, or the registers don't suit them. */
+/* Tests the whole heap. The cost grows with the number of blocks. Returns 0 if the heap is well-formed; 1 if the number of blocks,
+   the pace or a length doesn't fit (often a length in bytes instead of elements); 2 if a register is wrong; 8 if the contents of
+   the buffers are wrong, or the record and the buffers don't belong together. */
 DERGAMOYNE_MUST_USE static inline enum dergamoyne_refusal
 dergamoyne_check(struct dergamoyne_regs regs, const uint32_t *words, size_t words_length, const uint32_t *colours,
                  size_t colours_length, const uint8_t *bytes, size_t bytes_length)
@@ -412,8 +414,8 @@ DERGAMOYNE_REFUSABLE dergamoyne_heap_check(const struct dergamoyne_heap *h)
     return dergamoyne_check(h->regs, DERGAMOYNE_LENT);
 }
 
-/* A heap that was saved: `regs` is the record of the heap that it was, and the buffers, in memory of yours, have its contents. It
-   is tested first, as by dergamoyne_check. Refusals: 1, 2, 8, 101. */
+/* Goes on with a heap that was saved. `regs` is its record, and the buffers, in your own memory, have its contents. The heap is
+   tested first, as by dergamoyne_check. Refusals: 1, 2, 8, 101. */
 DERGAMOYNE_REFUSABLE dergamoyne_heap_resume(struct dergamoyne_heap *h, struct dergamoyne_regs regs, uint32_t *words,
                                             size_t words_length, uint32_t *colours, size_t colours_length, uint8_t *bytes,
                                             size_t bytes_length)

@@ -30,11 +30,11 @@ fn zeroes() -> Regs {
 // heap, of which all blocks but one get used; 6 takes that one, 7 to 11 find, write, read and audit it, and 12 finds no block free.
 fn asked(k: u32) -> Command {
     match k {
-        0 => Command::Format(16384, 65535),
+        0 => Command::Format(machine::MOST_BLOCKS, machine::MOST_PACE),
         1 => Command::Allocate(0, 0),
-        2 => Command::Work(65535),
+        2 => Command::Work(machine::MOST_UNITS),
         3 => Command::Work(65536),
-        4 => Command::Format(16384, 1),
+        4 => Command::Format(machine::MOST_BLOCKS, 1),
         5 => Command::Allocate(0, 0),
         6 => Command::Allocate(16384, 0),
         7 => Command::Read(16384, 0),

@@ -155,8 +155,9 @@ fn drive(
     let mut o = text_output::empty();
     let mut turns = u64::MAX;
     while turns > 0 && text_streams::goes_on(i, o) {
-        i = text_streams::next(i, input, line);
-        o = do_line(words, colours, bytes, line, i, out, o);
+        let s = text_streams::next(i, input, line, out, o);
+        i = s.input;
+        o = do_line(words, colours, bytes, line, i, out, s.output);
         turns -= 1;
     }
     text_output::flush(out, o);

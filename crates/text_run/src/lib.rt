@@ -64,8 +64,9 @@ fn drive(
     let mut o = text_output::empty();
     let mut turns = u64::MAX;
     while turns > 0 && text_streams::goes_on(i, o) {
-        i = text_streams::next(i, input, line);
-        let d = do_line(r, words, colours, bytes, line, i, out, o);
+        let s = text_streams::next(i, input, line, out, o);
+        i = s.input;
+        let d = do_line(r, words, colours, bytes, line, i, out, s.output);
         r = d.regs;
         o = d.output;
         turns -= 1;

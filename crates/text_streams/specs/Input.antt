@@ -2,8 +2,11 @@
 -- Document 01: "A line ends at byte 10, which isn't counted in it, or at the end of input; nothing after the last byte 10 is no line."
 --     begun s most         how many bytes are kept of the line that is gone on with, most being what its buffer holds
 --     negative got         whether a read that answered got failed
+--     ended                nothing is read any more, and no line is whole
 --     readGives            where reading stands after a read that failed, or gave so many bytes
 --     WentOn               going on in what was read: a cut
+--     ReadOnce             a read, whatever came of it
+--     Reads                what waits is written out, and then there is a read; none where that write fails
 --     Next                 going on in what was read, or reading where nothing of it is left
 -- Assumes nothing.
 use Prim.Native.Nat.{ℕ, _≤_, _<_, min}
@@ -15,7 +18,10 @@ use lib.ListN.{length, take}
 use lib.IntN.{ℤ, pos, negsuc}
 use Rattle.io.specs.Counts.{clamped}
 use Rattle.machine.specs.Tests.{if_then_else_}
+use Rattle.text_output.specs.declared.Output.{Output}
+use Rattle.text_output.specs.Output.{Flushed}
 use Rattle.text_streams.specs.declared.input.Input.{Input}
+use Rattle.text_streams.specs.declared.input.Step.{Step}
 use Rattle.text_streams.specs.Streams.{CutOut}
 
 abbrev pub begun : Input → ℕ → ℕ
@@ -25,9 +31,12 @@ abbrev pub negative : ℤ → Bool
 negative (pos n) = false
 negative (negsuc n) = true
 
+abbrev pub ended : Input
+ended = record { at = 0; upto = 0; kept = 0; ready = false; more = false }
+
 -- after a failure no line is whole; at the end of the input one that has any byte is
 unfoldable pub readGives : Bool → ℕ → ℕ → Input
-readGives true n kept = record { at = 0; upto = 0; kept = 0; ready = false; more = false }
+readGives true n kept = ended
 readGives false n kept =
     if eqb n 0
     then record { at = 0; upto = 0; kept = kept; ready = ltb 0 kept; more = false }
@@ -38,12 +47,20 @@ pub record WentOn (buffer : List ℕ) (at n : ℕ) (line : List ℕ) (kept : ℕ
   pub upto : r .upto ≡ n
   pub more : r .more ≡ true
 
--- a read: some answer came of it, and the line's buffer is as it was
-pub record ReadOnce (line : List ℕ) (kept : ℕ) (r : Input) (after : List ℕ) : Type 0 where
+-- some answer came of the read
+pub record ReadOnce (kept : ℕ) (r : Input) : Type 0 where
   pub got : ℤ
   pub gives : r ≡ readGives (negative got) (clamped got 65536) kept
-  pub same : after ≡ line
 
-pub record Next (s : Input) (buffer line : List ℕ) (r : Input) (buffer-after line-after : List ℕ) : Type 0 where
-  pub on : s .at < min (s .upto) 65536 → (buffer-after ≡ buffer) × WentOn buffer (s .at) (min (s .upto) 65536) line (begun s (length line)) r line-after
-  pub read : min (s .upto) 65536 ≤ s .at → ReadOnce line (begun s (length line)) r line-after
+-- the line's buffer stays as it was
+pub record Reads (kept : ℕ) (o : Output) (buffer line : List ℕ) (r : Step) (buffer-after line-after : List ℕ) : Type 0 where
+  pub flushed : Flushed o (r .output)
+  pub reads : r .output .well ≡ true → ReadOnce kept (r .input)
+  pub ends : r .output .well ≡ false → (r .input ≡ ended) × (buffer-after ≡ buffer)
+  pub same : line-after ≡ line
+
+pub record Next (s : Input) (o : Output) (buffer line : List ℕ) (r : Step) (buffer-after line-after : List ℕ) : Type 0 where
+  pub on :
+      s .at < min (s .upto) 65536
+      → (r .output ≡ o) × (buffer-after ≡ buffer) × WentOn buffer (s .at) (min (s .upto) 65536) line (begun s (length line)) (r .input) line-after
+  pub read : min (s .upto) 65536 ≤ s .at → Reads (begun s (length line)) o buffer line r buffer-after line-after

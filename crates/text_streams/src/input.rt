@@ -1,10 +1,11 @@
 // Lines out of standard input, read into a buffer. The memory taken is constant, and of a line as many bytes are kept as its own buffer holds.
 use super::cutting::cut_line;
+use text_output::Output;
 ghost use mathlib.Core.Path.{_≡_};
 ghost use mathlib.Core.Bool.{true, false};
 ghost use Prim.Native.Nat.{_≤_, min};
 ghost use lib.ListN.{length};
-ghost use Rattle.text_streams.specs.Input.{begun, negative, readGives, WentOn, Next};
+ghost use Rattle.text_streams.specs.Input.{begun, negative, ended, readGives, WentOn, ReadOnce, Next};
 
 // Where reading stands: the place in the buffer to go on at, how many bytes of the buffer were read, how many bytes of a line are kept,
 // whether that line is whole, and whether more may come.
@@ -14,6 +15,12 @@ pub struct Input {
     pub kept: usize,
     pub ready: bool,
     pub more: bool,
+}
+
+// Where reading stands, and what waits to be written.
+pub struct Step {
+    pub input: Input,
+    pub output: Output,
 }
 
 // Nothing is read yet.
@@ -26,6 +33,19 @@ pub fn start() -> Input
         kept: 0,
         ready: false,
         more: true,
+    }
+}
+
+// Nothing is read any more, and no line is whole.
+fn no_more() -> Input
+    ensures { λ r. ⌜ r ≡ ended ⌝ }
+{
+    Input {
+        at: 0,
+        upto: 0,
+        kept: 0,
+        ready: false,
+        more: false,
     }
 }
 
@@ -68,13 +88,7 @@ fn after_read(failed: bool, n: usize, kept: usize) -> Input
 {
     if failed {
         say_unread();
-        return Input {
-            at: 0,
-            upto: 0,
-            kept: 0,
-            ready: false,
-            more: false,
-        };
+        return no_more();
     }
     if n == 0 {
         return Input {
@@ -109,16 +123,43 @@ fn go_on(buffer: &[u8], at: usize, n: usize, line: &mut [u8], kept: usize) -> In
     }
 }
 
-// Goes on to the end of a line, or of what was read; where nothing of that is left, reads once.
-pub fn next(s: Input, buffer: &mut [u8; 65536], line: &mut [u8]) -> Input
-    ensures { λ r. ⌜ Next s (now (buffer .entry)) (now (line .entry)) r (now (buffer .exit)) (now (line .exit)) ⌝ }
+// Reads once.
+fn read_once(buffer: &mut [u8; 65536], kept: usize) -> Input
+    ensures { λ r. ⌜ ReadOnce kept r ⌝ }
+{
+    let got = libc::read(0, buffer);
+    after_read(is_failure(got), io::count(got, buffer), kept)
+}
+
+// Goes on to the end of a line, or of what was read. Where nothing of that is left, writes out what waits, since a read may wait long, and
+// then reads once. Where that write fails, nothing is read any more.
+pub fn next(
+    s: Input,
+    buffer: &mut [u8; 65536],
+    line: &mut [u8],
+    out: &[u8; 65536],
+    o: Output,
+) -> Step
+    ensures { λ r. ⌜ Next s o (now (buffer .entry)) (now (line .entry)) r (now (buffer .exit)) (now (line .exit)) ⌝ }
 {
     let kept = begun_of(s, line.len());
     let at = s.at;
     let n = least(s.upto, 65536);
     if at < n {
-        return go_on(buffer, at, n, line, kept);
+        return Step {
+            input: go_on(buffer, at, n, line, kept),
+            output: o,
+        };
     }
-    let got = libc::read(0, buffer);
-    after_read(is_failure(got), io::count(got, buffer), kept)
+    let written = text_output::flush(out, o);
+    if written.well {
+        return Step {
+            input: read_once(buffer, kept),
+            output: written,
+        };
+    }
+    Step {
+        input: no_more(),
+        output: written,
+    }
 }

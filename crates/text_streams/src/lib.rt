@@ -1,8 +1,9 @@
-// Lines out of standard input, and a word on standard error where reading fails.
+// Lines out of standard input, and a word on standard error where reading fails. What waits to be written is written before each read.
 mod cutting; // cutting.rt: lines out of what was read
 mod input; // input.rt: reading
 
 pub use input::Input;
+pub use input::Step;
 pub use input::next;
 pub use input::start;
 use text_output::Output;

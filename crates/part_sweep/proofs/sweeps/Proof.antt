@@ -77,12 +77,12 @@ loop-again : tie.Need-loop-again Inv-loop μ-loop
 loop-again c =
     let c-sweep-unit = c .before .before .before .before .before .before .before .before .before .sweep-unit in
     let c-if1 = c .before .before .before .before .before .before .before .before .before .before .before .before .before .if1 in
-    let c-loop = c .before .before .before .before .before .before .before .before .before .before .before .before .before .before .before .loop in
-    let on = swept-on _ _ _ _ (c-loop .s) (c-loop .words) (c-loop .colours) (c-loop .bytes) (c-loop .inv .3) (c-if1 .taken) in (
+    let c-loop = c .before .before .before .before .before .before .before .before .before .before .before .before .before .before .before .loop in (
       c-sweep-unit .kept .1 .0 ∙ c-loop .inv .0,
       c-sweep-unit .kept .1 .1 .0 ∙ c-loop .inv .1,
       c-sweep-unit .kept .1 .1 .1 .0 ∙ c-loop .inv .2,
-      on _ _ _ (c-sweep-unit .ensures .0) (c-sweep-unit .ensures .1) _ (c .before .next .given .1),
+      swept-on _ _ _ _ (c-loop .s) (c-loop .words) (c-loop .colours) (c-loop .bytes) (c-loop .inv .3) (c-if1 .taken)
+          _ _ _ (c-sweep-unit .ensures .0) (c-sweep-unit .ensures .1) _ (c .before .next .given .1),
     )
 
 settled-requires : tie.Need-settled-requires Inv-loop μ-loop

@@ -4,9 +4,7 @@ use native.Mathlib.Omega.{arith}
 use borrow.Author.Needs.{needs}
 use native.Mathlib.Nat.{min-le-right}
 use lib.ListN.{length}
-use mir.Syntax.{w64}
-use mir.Val.{ofZ, toZ}
-use Rattle.text_streams.proofs.Reading.{begun-fits, next-on, next-read}
+use Rattle.text_streams.proofs.Reading.{begun-fits, next-on, next-read, next-ends}
 use Rattle.text_streams.proofs.input.next.Statement.{statement}
 use Rattle.text_streams.proofs.input.next.Tie as tie
 
@@ -36,29 +34,32 @@ returns c =
     let c-begun = c .before .before .before .before .before .before .before .before .begun-of in
     let c-least = c .before .before .before .before .before .before .before .least in
     let c-if1 = c .before .before .before .before .before .before .if1 in
-    next-on (c-args .s) _ _ _ _ _ (c-least .ensures) (c-begun .ensures) _ (c-if1 .taken) (c .before .before .go-on .ensures)
+    next-on (c-args .s) (c-args .o) _ _ _ _ (c-least .ensures) (c-begun .ensures) _ _ (c-if1 .taken) (c .before .before .go-on .ensures)
 
-read-requires : tie.Need-read-requires
-read-requires c κs = tt
+flush-requires : tie.Need-flush-requires
+flush-requires c κs = tt
 
-is-failure-requires : tie.Need-is-failure-requires
-is-failure-requires c κs = tt
-
-count-requires : tie.Need-count-requires
-count-requires c κs = tt
-
-after-read-requires : tie.Need-after-read-requires
-after-read-requires c κs = tt
+read-once-requires : tie.Need-read-once-requires
+read-once-requires c κs = tt
 
 returns-2 : tie.Need-returns-2
 returns-2 c =
-    let c-args = c .before .before .before .before .before .before .before .before .before .before .before .args in
-    let c-begun = c .before .before .before .before .before .before .before .before .before .begun-of in
-    let c-least = c .before .before .before .before .before .before .before .before .least in
-    let c-if1 = c .before .before .before .before .before .before .before .if1 in
-    let c-read = c .before .before .before .before .before .read in
-    let c-failure = c .before .before .before .before .is-failure in
-    next-read (c-args .s) _ _ _ _ _ (c-least .ensures) (c-begun .ensures) _ (toZ w64 (ofZ w64 (c-read .result))) _ _ (c-if1 .left) (c .before .before .count-arg2 .given .0) (c-failure .ensures) (c .before .count .ensures .1) (c .after-read .ensures)
+    let c-args = c .before .before .before .before .before .before .before .before .args in
+    let c-begun = c .before .before .before .before .before .before .begun-of in
+    let c-least = c .before .before .before .before .before .least in
+    let c-if1 = c .before .before .before .before .if1 in
+    next-read (c-args .s) (c-args .o) _ _ _ _ (c-least .ensures) (c-begun .ensures) _ _ _ (c-if1 .left) (c .before .before .before .flush .ensures) (c .before .before .if2 .taken) (c .read-once .ensures)
+
+no-more-requires : tie.Need-no-more-requires
+no-more-requires c κs = tt
+
+returns-3 : tie.Need-returns-3
+returns-3 c =
+    let c-args = c .before .before .before .before .before .before .before .args in
+    let c-begun = c .before .before .before .before .before .begun-of in
+    let c-least = c .before .before .before .before .least in
+    let c-if1 = c .before .before .before .if1 in
+    next-ends (c-args .s) (c-args .o) _ _ _ _ (c-least .ensures) (c-begun .ensures) _ _ (c-if1 .left) (c .before .before .flush .ensures) (c .before .if2 .left) (c .no-more .ensures)
 
 pub next-spec : {M : Type 1} → statement M
 next-spec =
@@ -69,8 +70,8 @@ next-spec =
     go-on-requires
     same-length
     returns
-    read-requires
-    is-failure-requires
-    count-requires
-    after-read-requires
-    returns-2)
+    flush-requires
+    read-once-requires
+    returns-2
+    no-more-requires
+    returns-3)
