@@ -20,6 +20,10 @@ pub mod Kept
 pub mod Formats
 pub mod Working
 pub mod Allocating
+pub mod Walking
+pub mod Gathering
+pub mod Serving
+pub mod Chaining
 pub mod Audits
 pub mod References
 pub mod Passing

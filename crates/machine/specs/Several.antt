@@ -3,6 +3,7 @@
 --     frees n b h, firstFrees n h     n blocks by their links, from b on and from the head of the free list on
 --     listWalks n b h      n blocks of the list from b on are there and free, each with a link that is 0 or a block
 --     distinct xs          no number comes twice
+--     headRefusal head count     8 for a free head and a free count that disagree
 --     severalRefusal n h   8 or 7 for the first n of the free list
 --     filled f i x h       what the form fills in in x, the block i
 --     serve f b w xs n i h     n more blocks taken, of which the first is the block i of the form; xs are all of them
@@ -37,7 +38,8 @@ pub record Form : Type 0 where
 abbrev pub linkOf : Heap → ℕ → ℕ
 linkOf h b = wordOf (h .words) b 0
 
-abbrev pub frees : ℕ → ℕ → Heap → List ℕ
+-- n blocks from b on, by their links
+unfoldable pub frees : ℕ → ℕ → Heap → List ℕ
 frees zero b h = []
 frees (suc n) b h = b ∷ frees n (linkOf h b) h
 
@@ -60,11 +62,16 @@ unfoldable pub distinct : List ℕ → Bool
 distinct [] = true
 distinct (x ∷ xs) = not (amongst x xs) && distinct xs
 
+-- "8 for head and count": "a free head that is 0 while the count isn't, or the reverse"
+unfoldable pub headRefusal : ℕ → ℕ → ℕ
+headRefusal head count =
+    if eqb head 0 then (if eqb count 0 then 0 else 8) else (if eqb count 0 then 8 else 0)
+
 -- "in taking, 8 for head and count, 7 exactly when fewer than n are free, 8 for each block, also when the list ends early or repeats
--- one"; head and count: "a free head that is 0 while the count isn't, or the reverse"
+-- one"
 unfoldable pub severalRefusal : ℕ → Heap → ℕ
 severalRefusal n h =
-    (if eqb (h .regs .free) 0 then (if eqb (h .regs .count) 0 then 0 else 8) else (if eqb (h .regs .count) 0 then 8 else 0))
+    headRefusal (h .regs .free) (h .regs .count)
     ▷ (if leb n (h .regs .count) then 0 else 7)
     ▷ (if listWalks n (h .regs .free) h && distinct (firstFrees n h) then 0 else 8)
 

@@ -17,6 +17,9 @@ pub const LINK: u32 = 7;
 
 pub const LAST_FIELD: u32 = 1_791;
 
+// The longest chain, in blocks.
+pub const MOST_CHAIN: u32 = 256;
+
 // The phases.
 pub const IDLE: u32 = 0;
 

@@ -1,0 +1,2 @@
+-- Laws of the walks along the free list.
+pub mod Walks
