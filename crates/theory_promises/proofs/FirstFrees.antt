@@ -20,7 +20,7 @@ use Rattle.machine.specs.Block.{wordOf}
 use Rattle.machine.specs.Colouring.{freeColour}
 use Rattle.machine.specs.Heap.{Heap}
 use Rattle.machine.specs.Standing.{holderRefusal}
-use Rattle.machine.specs.Several.{linkOf, frees, firstFrees, listWalks, amongst, distinct, severalRefusal, takeSeveralRefusal}
+use Rattle.machine.specs.Several.{linkOf, frees, firstFrees, listWalks, amongst, distinct, headRefusal, severalRefusal, takeSeveralRefusal}
 use Rattle.machine.specs.WellFormed.{Block, Coloured, Listed, ends, goes}
 use Rattle.machine.proofs.Tests.{both, if-ind, by-eq}
 use Rattle.machine.proofs.Entering.{first-zero, block-or-none}
@@ -37,6 +37,7 @@ amongst-not x [] n = refl
 amongst-not x (y ∷ ys) n = simp (ne-eqb x y (λ e. n (List·Memᴰ·head e))) (amongst-not x ys (λ i. n (List·Memᴰ·tail i)))
 
 pub frees-same : (n a : ℕ) (h k : Heap) → ((y : ℕ) → List·Memᴰ y (frees n a h) → linkOf k y ≡ linkOf h y) → frees n a k ≡ frees n a h
+unfolding frees
 frees-same zero a h k s = refl
 frees-same (suc n) a h k s =
     subst (λ (z : ℕ). a ∷ frees n z k ≡ a ∷ frees n (linkOf h a) h) (sym (s a (List·Memᴰ·head refl)))
@@ -47,6 +48,7 @@ module _ (h : Heap) where
   next b = wordOf (h .words) b 0
 
   pub frees-in : (n : ℕ) {a : ℕ} {l : List ℕ} → Listed next 0 a l → n ≤ length l → (y : ℕ) → List·Memᴰ y (frees n a h) → List·Memᴰ y l
+  unfolding frees
   frees-in zero d i y m = absurd (List·Memᴰ·not-nil m)
   frees-in (suc n) (ends e) i y m = absurd (omega arith)
   frees-in (suc n) (goes o d) i y m =
@@ -64,7 +66,7 @@ module _ (h : Heap) where
       (frees-walk n d (omega arith) (λ y j. c y (List·Memᴰ·tail j)))))
 
   frees-apart : (n : ℕ) {a : ℕ} {l : List ℕ} → Listed next 0 a l → n ≤ length l → distinct (frees n a h) ≡ true
-  unfolding distinct
+  unfolding distinct frees
   frees-apart zero d i = refl
   frees-apart (suc n) (ends e) i = absurd (omega arith)
   frees-apart (suc n) (goes {a} o d) i =
@@ -73,9 +75,10 @@ module _ (h : Heap) where
 
 module _ (h : Heap) (p : Shape h) (n : ℕ) where
   abbrev heads : ℕ
-  heads = if eqb (h .regs .free) 0 then (if eqb (h .regs .count) 0 then 0 else 8) else (if eqb (h .regs .count) 0 then 8 else 0)
+  heads = headRefusal (h .regs .free) (h .regs .count)
 
   pub heads-fit : heads ≡ 0
+  unfolding headRefusal
   heads-fit =
       by-eq (h .regs .free) 0
       (λ e. simp (eq-eqb (h .regs .free) 0 e, eq-eqb (h .regs .count) 0 (head-count h p e)))

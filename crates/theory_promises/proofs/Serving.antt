@@ -239,6 +239,7 @@ abbrev pub oneServed : Form → ℕ → ℕ → List ℕ → ℕ → Heap → He
 oneServed f b w xs i k = filled f i (k .regs .free) (held (holderOf f b xs i) (byWord f w i) (k .regs .free) (taken k))
 
 pub stage-block : (b w : ℕ) (xs : List ℕ) (n i : ℕ) (k : Heap) → Stage b w xs (suc n) i k → getD xs i 0 ≡ k .regs .free
+unfolding frees
 stage-block b w xs n i k s = ap (λ (j : ℕ). getD xs j 0) (omega arith) ∙ s .spot 0 (omega arith)
 
 pub stage-first : (b w n : ℕ) (k : Heap) → WellFormed k → n ≤ k .regs .count → holderPlace (k .regs .blocks) b w ≡ 0
@@ -297,6 +298,7 @@ module _ (f : Form) (o : Orderly f) where
       stage-taken = next-one i k (s .formed) (holderOf f b xs i) (byWord f w i) stage-allows
 
       pub stage-next : Stage b w xs n (i + 1) (oneServed f b w xs i k)
+      unfolding frees
       stage-next =
           let t = stage-taken in
           let e = stage-block b w xs n i k s in
