@@ -31,7 +31,7 @@ pub struct LookAnswer {
 pub extern "C" fn dergamoyne_version() -> u32
     ensures { λ n. ⌜ n ≡ version ⌝ }
 {
-    1000
+    2000
 }
 
 // How many bytes a register record takes in memory.
