@@ -1,8 +1,8 @@
 """Cases of the calls on chained objects, worked out by hand from document 02's
 request L1, one clause at a time.
 
-Each case is (clause, call, numbers, heap, answer). All heaps have six blocks, so
-8 is no block and no colour. check_chains.py runs them on the model; calls.py
+Each case is (clause, call, numbers, heap, answer). All heaps but those of the
+longest object have six blocks, so 8 is no block and no colour. check_chains.py runs them on the model; calls.py
 puts them among the cases of tests/c.
 """
 
@@ -129,6 +129,24 @@ def taking():
     yield "other words and bits stay", CHAIN, (0, 0, 2), but(idle(), word={(4, 3): 9, (5, 7): 9}, byte={4: 8, 5: 255}), (0, 4, 2)
 
 
+# ----------------------------------------------------------- the longest object
+
+def fresh(M):
+    h = machine.empty_heap(M)
+    machine.format(h, M, 1)
+    return h
+
+
+def longest():
+    """256 units: a cycle begins, the turn, 2 to 255 are swept. All blocks are
+    taken; the last two are black. Field 1,791 is word 6 of block 257."""
+    yield "256 blocks", CHAIN, (0, 0, 256), fresh(256), (0, 2, 256)
+    yield "255 are free", CHAIN, (0, 0, 256), fresh(255), (7, 0, 256)
+    h = fresh(256)
+    chains.allocate_chain(h, 0, 0, 256)
+    yield "the last field", READ, (2, 1791), but(h, word={(257, 6): 9}), (0, 9, 0, False)
+
+
 # --------------------------------------------------------------------- fields
 
 def at_fields(clause, block, k, heap, no):
@@ -218,5 +236,5 @@ def entry():
 
 
 def cases():
-    for part in (units_and_holder, pace_0, taking, fields, walked, targets, entry):
+    for part in (units_and_holder, pace_0, taking, longest, fields, walked, targets, entry):
         yield from part()

@@ -4,7 +4,6 @@ heaps damaged or not. As in draw.py everything follows from the seed.
 
 import chains
 import draw
-import facts
 import lines
 import machine
 from draw import below, between, chance, one_of
