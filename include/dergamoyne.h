@@ -108,7 +108,7 @@
 
    Not proved are this header, the way in which C passes arguments and results, and the compilers. These are tested: tests/c makes
    more than 70,000 calls through this header, damaged heaps and wrong lengths among them, and compares every answer with a
-   second model's, and of 35,000 the whole heap afterwards; tests/fuzz compares millions with the same machine in plain C. */
+   second model's, and of 34,000 the whole heap afterwards; tests/fuzz compares millions with the same machine in plain C. */
 #ifndef DERGAMOYNE_H
 #define DERGAMOYNE_H
 
