@@ -258,6 +258,31 @@ def room_enough():
     return f"{allocations} chains, least room left {least}"
 
 
+def no_better_rule():
+    """With U = 2M + 2, so that N is 1: sessions that hold as many blocks as the
+    rule allows leave none free, and with one more some chain is refused by 7."""
+    for M, B in [(8, 2), (10, 3), (12, 4)]:
+        K = M - 2 - (B - 1)
+        full = any(0 in greedy_session(seed, M, K, B)[0] for seed in range(60))
+        need(full, f"M {M}, B {B}: a block is always free")
+        refused = any(7 in greedy_session(seed, M, K + 1, B)[1] for seed in range(60))
+        need(refused, f"M {M}, B {B}: never refused with K + 1")
+    return "M of 8, 10 and 12"
+
+
+def greedy_session(seed, M, K, B):
+    """The free counts after 80 calls at pace 2M + 2, and their refusals."""
+    rng = random.Random(seed)
+    h, greed = formatted(M, 2 * M + 2), rng.random()
+    counts, refusals = set(), set()
+    for _ in range(80):
+        name, numbers = greedy_call(rng, h, K, B, greed)
+        refusals.add((chains.allocate_chain(h, *numbers) if name == "allocate_chain"
+                      else lines.answer_of(h, name, numbers))[0])
+        counts.add(h.free_count)
+    return counts, refusals
+
+
 def greedy_call(rng, h, K, B, greed):
     """A chain where what is reachable then stays within K, else letting go."""
     held = len(facts.reachable(h))
@@ -318,7 +343,7 @@ def damaged_heaps():
 
 
 TESTS = [rows_of_20_fields, marking_and_pace_0, cases_by_hand, sessions, long_objects, two_forms,
-         room_enough, damaged_heaps]
+         room_enough, no_better_rule, damaged_heaps]
 
 if __name__ == "__main__":
     sys.exit(check.main(TESTS))
