@@ -111,7 +111,7 @@
 
    This header, the way in which C passes arguments and results, and the compilers are not proved. They are tested. tests/c makes
    more than 70,000 calls through this header, also on damaged heaps and with wrong lengths. It compares every answer with a
-   second model's, and the whole heap after 35,000 of them. tests/fuzz compares millions of calls with the same machine in
+   second model's, and the whole heap after 34,000 of them. tests/fuzz compares millions of calls with the same machine in
    plain C. */
 #ifndef DERGAMOYNE_H
 #define DERGAMOYNE_H
@@ -284,9 +284,9 @@ DERGAMOYNE_MUST_USE struct dergamoyne_look_answer dergamoyne_look(
 /* Allocate chain: n times the units of Allocate (with pace 0, n times what Allocate would do at this moment), then the first n
    free blocks become an object, all of them or none, and a reference to its first block is stored: in word w of the block b, or
    with b and w 0 as the root. The value is the first block. Every field is the number 0; each word 7 is the reference to the
-   next block, null in the last. What was in the word, or was the root, is replaced: with w 7 and a block of an object, the rest
-   of that object. Refusals: 1, 2; 3 also for n not 1 to 256; then, after the units, 8 and 5 for b; 7 where fewer than n blocks
-   are free; 8 where the free list is damaged. */
+   next block, null in the last. What was in the word, or was the root, is replaced. (With w 7 and a block of an object it is the
+   rest of that object that is replaced.) Refusals: 1, 2; 3 also for n not 1 to 256; then, after the units, 8 and 5 for b; 7 where
+   fewer than n blocks are free; 8 where the free list is damaged. */
 DERGAMOYNE_MUST_USE struct dergamoyne_answer dergamoyne_allocate_chain(
     struct dergamoyne_regs *regs, uint32_t *words, size_t words_length, uint32_t *colours, size_t colours_length,
     uint8_t *bytes, size_t bytes_length, uint32_t b, uint32_t w, uint32_t n);

@@ -309,7 +309,7 @@ DERGAMOYNE_REFUSABLE dergamoyne_heap_allocate_chain_(struct dergamoyne_heap *h, 
     return (enum dergamoyne_refusal)a.refusal;
 }
 
-/* The block of an object that has the field. */
+/* The block of an object that has the field. Its cost goes with the blocks up to it. */
 DERGAMOYNE_REFUSABLE dergamoyne_heap_block_of_field_(const struct dergamoyne_heap *h, uint32_t object, uint32_t field,
                                                      uint32_t *block)
 {
@@ -334,7 +334,7 @@ DERGAMOYNE_REFUSABLE dergamoyne_heap_new_root_object(struct dergamoyne_heap *h, 
     return dergamoyne_heap_allocate_chain_(h, 0, 0, blocks, object);
 }
 
-/* A new object, held by field `field` of the object `holder`. A block of document 01 is an object of its words 0 to 6 too. */
+/* A new object, held by field `field` of the object `holder`. A single block serves as holder too, with its words 0 to 6. */
 DERGAMOYNE_REFUSABLE dergamoyne_heap_new_object(struct dergamoyne_heap *h, uint32_t holder, uint32_t field, uint32_t blocks,
                                                 uint32_t *object)
 {

@@ -1,9 +1,9 @@
 """Cases of the calls on chained objects, worked out by hand from document 02's
 request L1, one clause at a time.
 
-Each case is (clause, call, numbers, heap, answer). All heaps have six blocks, so
-8 is no block and no colour. check_chains.py runs them on the model; calls.py
-puts them among the cases of tests/c.
+Each case is (clause, call, numbers, heap, answer). All heaps but those of the
+longest object have six blocks, so 8 is no block and no colour. check_chains.py runs
+them on the model; calls.py puts them among the cases of tests/c.
 """
 
 import chains
@@ -74,7 +74,8 @@ def units_and_holder():
         yield "the holder is free", CHAIN, (holder, 0, 2), idle(), (5, 0, 2)
         yield "5 before 7", CHAIN, (holder, 0, 5), idle(), (5, 0, 5)
     yield "8 for the holder", CHAIN, (3, 0, 1), but(dropped(), {3: OUT}), (8, 0, 1)
-    yield "8 for the holder before 7", CHAIN, (3, 0, 1), but(dropped(), {3: OUT}, free_head=0, free_count=0), (8, 0, 1)
+    h = but(dropped(), {3: OUT}, free_head=0, free_count=0)
+    yield "8 for the holder before 7", CHAIN, (3, 0, 1), h, (8, 0, 1)
     yield "the holder is still allocated", CHAIN, (3, 0, 1), dropped(), (0, 4, 1)
     yield "the holder is doomed by the units", CHAIN, (3, 0, 2), dropped(), (5, 0, 2)
     yield "the holder is doomed by the units", CHAIN, (3, 0, 3), dropped(), (5, 0, 3)
@@ -90,9 +91,11 @@ def pace_0():
         h = but(idle(), U=0, free_count=count)
         yield "pace 0", CHAIN, (2, 0, 2), h, (0, 4, 2 * units)
     yield "pace 0, fewer than n are free", CHAIN, (2, 0, 5), but(idle(), U=0), (7, 0, 10)
-    yield "pace 0 is worked out once, at entry", CHAIN, (0, 0, 3), but(dropped(), U=0, free_count=3), (0, 3, 12)
+    h = but(dropped(), U=0, free_count=3)
+    yield "pace 0 is worked out once, at entry", CHAIN, (0, 0, 3), h, (0, 3, 12)
     empty = {"free_head": 0, "free_count": 0}
-    yield "pace 0, free count 0 counted as 1", CHAIN, (2, 0, 3), but(idle(), U=0, **empty), (7, 0, 36)
+    h = but(idle(), U=0, **empty)
+    yield "pace 0, free count 0 counted as 1", CHAIN, (2, 0, 3), h, (7, 0, 36)
 
 
 def taking():
@@ -101,14 +104,18 @@ def taking():
     for n in (1, 2, 5):
         yield "head 0 and count not", CHAIN, (2, 0, n), but(idle(), free_head=0), (8, 0, n)
         yield "the reverse", CHAIN, (2, 0, n), but(idle(), free_count=0), (8, 0, n)
-        yield "head and count both 0", CHAIN, (2, 0, n), but(idle(), free_head=0, free_count=0), (7, 0, n)
+        h = but(idle(), free_head=0, free_count=0)
+        yield "head and count both 0", CHAIN, (2, 0, n), h, (7, 0, n)
     for spoil in ({"colour": {4: WHITE}}, {"word": {(4, 0): OUT}}, {"word": {(4, 0): 4}}):
-        yield "7 by the count alone, before the list", CHAIN, (2, 0, 2), but(idle(), free_count=1, **spoil), (7, 0, 2)
+        h = but(idle(), free_count=1, **spoil)
+        yield "7 by the count alone, before the list", CHAIN, (2, 0, 2), h, (7, 0, 2)
     for colour in (WHITE, BLACK, 1, 5, OUT):
         for n in (1, 2):
-            yield "the first is not coloured free", CHAIN, (0, 0, n), but(idle(), {4: colour}), (8, 0, n)
+            h = but(idle(), {4: colour})
+            yield "the first is not coloured free", CHAIN, (0, 0, n), h, (8, 0, n)
         yield "a later one that isn't taken", CHAIN, (0, 0, 2), but(idle(), {6: colour}), (0, 4, 2)
-        yield "the third is not coloured free", CHAIN, (0, 0, 3), but(idle(), {6: colour}), (8, 0, 3)
+        h = but(idle(), {6: colour})
+        yield "the third is not coloured free", CHAIN, (0, 0, 3), h, (8, 0, 3)
     for link in (1, OUT, TOP):
         h = but(idle(), word={(5, 0): link})
         yield "the link of one that isn't taken", CHAIN, (0, 0, 1), h, (0, 4, 1)
@@ -126,7 +133,26 @@ def taking():
         yield "the fourth is an earlier one", CHAIN, (0, 0, 4), h, (8, 0, 4)
         h = but(idle(), word={(7, 0): link})
         yield "a ring of just four", CHAIN, (0, 0, 4), h, (0, 4, 4)
-    yield "other words and bits stay", CHAIN, (0, 0, 2), but(idle(), word={(4, 3): 9, (5, 7): 9}, byte={4: 8, 5: 255}), (0, 4, 2)
+    h = but(idle(), word={(4, 3): 9, (5, 7): 9}, byte={4: 8, 5: 255})
+    yield "other words and bits stay", CHAIN, (0, 0, 2), h, (0, 4, 2)
+
+
+# ----------------------------------------------------------- the longest object
+
+def fresh(M):
+    h = machine.empty_heap(M)
+    machine.format(h, M, 1)
+    return h
+
+
+def longest():
+    """256 units: a cycle begins, the turn, 2 to 255 are swept. All blocks are
+    taken; the last two are black. Field 1,791 is word 6 of block 257."""
+    yield "256 blocks", CHAIN, (0, 0, 256), fresh(256), (0, 2, 256)
+    yield "255 are free", CHAIN, (0, 0, 256), fresh(255), (7, 0, 256)
+    h = fresh(256)
+    chains.allocate_chain(h, 0, 0, 256)
+    yield "the last field", READ, (2, 1791), but(h, word={(257, 6): 9}), (0, 9, 0, False)
 
 
 # --------------------------------------------------------------------- fields
@@ -148,9 +174,11 @@ def fields():
         yield from at_fields("k above 1,791", 2, k, idle, 3)
     for block in (0, 1, OUT, TOP):
         yield from at_fields("no such block", block, 0, idle, 3)
-    yield "field 7 is word 0 of the second block", READ, (2, 7), but(idle(), word={(3, 0): 9}), (0, 9, 0, False)
+    h = but(idle(), word={(3, 0): 9})
+    yield "field 7 is word 0 of the second block", READ, (2, 7), h, (0, 9, 0, False)
     yield "field 13 is word 6 of it", READ, (2, 13), but(idle(), word={(3, 6): 9}), (0, 9, 0, False)
-    yield "field 6 is word 6 of the first", READ, (2, 6), but(idle(), word={(2, 6): 9}), (0, 9, 0, False)
+    h = but(idle(), word={(2, 6): 9})
+    yield "field 6 is word 6 of the first", READ, (2, 6), h, (0, 9, 0, False)
     yield "a reference", READ, (2, 8), but(idle(), word={(3, 1): 2}, byte={3: 130}), (0, 2, 0, True)
     for k, block, word in [(14, 2, 0), (1784, 2, 6), (1785, 3, 0), (1791, 3, 6)]:
         ring = but(idle(), word={(3, 7): 2, (block, word): 5})
@@ -165,18 +193,23 @@ def walked():
         yield from at_fields("5 for the first block", 4, k, idle, 5)
         yield from at_fields("5 for the first block, doomed", 2, k, dooming, 5)
         later = 0 if k < 7 else 8
-        yield from at_fields("8 for the second block", 2, k, lambda: but(idle(), {3: TOP - 2}), later)
+        yield from at_fields("8 for the second block", 2, k,
+                             lambda: but(idle(), {3: TOP - 2}), later)
         later = 0 if k < 7 else 5
         yield from at_fields("5 for the second block", 2, k, lambda: but(idle(), {3: FREE}), later)
-        yield from at_fields("5 for the second block, doomed", 2, k, lambda: but(dooming(), position=3), later)
+        yield from at_fields("5 for the second block, doomed", 2, k,
+                             lambda: but(dooming(), position=3), later)
         later = 0 if k < 7 else 3
-        yield from at_fields("word 7 is no reference", 2, k, lambda: but(idle(), byte={2: 0}), later)
+        yield from at_fields("word 7 is no reference", 2, k,
+                             lambda: but(idle(), byte={2: 0}), later)
         yield from at_fields("word 7 is null", 2, k, lambda: but(idle(), word={(2, 7): 0}), later)
     for name in (1, OUT, TOP):
-        yield from at_fields("word 7 names no block", 2, 7, lambda: but(idle(), word={(2, 7): name}), 8)
+        yield from at_fields("word 7 names no block", 2, 7,
+                             lambda: but(idle(), word={(2, 7): name}), 8)
         yield from at_fields("a number in word 7, before 8", 2, 7,
                              lambda: but(idle(), word={(2, 7): name}, byte={2: 0}), 3)
-        yield from at_fields("word 7 is not followed", 2, 6, lambda: but(idle(), word={(2, 7): name}), 0)
+        yield from at_fields("word 7 is not followed", 2, 6,
+                             lambda: but(idle(), word={(2, 7): name}), 0)
 
 
 def targets():
@@ -218,5 +251,5 @@ def entry():
 
 
 def cases():
-    for part in (units_and_holder, pace_0, taking, fields, walked, targets, entry):
+    for part in (units_and_holder, pace_0, taking, longest, fields, walked, targets, entry):
         yield from part()

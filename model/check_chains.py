@@ -2,6 +2,7 @@
 demands: python3 model/check_chains.py, as model/check.py.
 """
 
+import itertools
 import random
 import sys
 
@@ -41,7 +42,8 @@ def rows_of_20_fields():
     equal(chains.store_field_reference(h, 2, 7, 4), (0, 0, 0), "a reference in field 7")
     equal((machine.read(h, 3, 0), h.bytes[1]), ((0, 4, 0, True), 129), "it is word 0 of block 3")
     equal(chains.allocate_chain(h, 3, 1, 2), (0, 5, 2), "a chain held by field 8")
-    equal((h.colours[3:5], words_7(h)[3:5], h.bytes[1]), ([BLACK, BLACK], [6, 0], 131), "its blocks")
+    equal((h.colours[3:5], words_7(h)[3:5]), ([BLACK, BLACK], [6, 0]), "its blocks")
+    equal(h.bytes[1], 131, "the bits of its holder")
     equal(chains.read_field(h, 2, 8), (0, 5, 0, True), "field 8")
     before = machine.copy(h)
     equal(chains.allocate_chain(h, 2, 0, 2), (7, 0, 2), "one block is free")
@@ -68,7 +70,8 @@ def marking_and_pace_0():
     equal((h.words[1], h.bytes[0]), (4, 130), "and then stored")
     h = chain_cases.dropped()
     equal(chains.allocate_chain(h, 0, 0, 3), (0, 2, 3), "a block just freed")
-    equal((h.colours, words_7(h)[:4]), ([WHITE, WHITE, BLACK, BLACK, FREE, FREE], [4, 0, 5, 0]), "2, 4, 5")
+    equal(h.colours, [WHITE, WHITE, BLACK, BLACK, FREE, FREE], "2, 4, 5: colours")
+    equal(words_7(h)[:4], [4, 0, 5, 0], "2, 4, 5: words 7")
     return "as worked out"
 
 
@@ -107,17 +110,21 @@ def watched_chain(h, block, word, n, log):
     before = machine.copy(h)
     what = f"allocate chain {block} {word} {n}"
     no, value, units = chains.allocate_chain(h, block, word, n)
+    each = before.U or 2 * (before.M // max(before.free_count, 1))
+    need(units == (0 if no == 3 else n * each), f"{units} units: {what}", before)
     watched = machine.copy(before)
     check.watched_units(watched, units, log)
     if no:
         need(watched == h, f"more than its units changed: {what}", before, h)
         need(no in (3, 5, 7), f"{no}: {what}", before, h)
-        need(no != 5 or block not in facts.allocated(watched) - facts.doomed(watched), f"5: {what}", before)
+        usable = facts.allocated(watched) - facts.doomed(watched)
+        need(no != 5 or block not in usable, f"5: {what}", before)
         need(no != 7 or watched.free_count < n, f"7 and enough are free: {what}", before, h)
         return
     taken = object_of(h, value)
     need(len(taken) == n == len(set(taken)), f"not n blocks: {what}", before, h)
-    need(facts.allocated(h) - facts.allocated(watched) == set(taken), f"other blocks: {what}", before, h)
+    new = facts.allocated(h) - facts.allocated(watched)
+    need(new == set(taken), f"other blocks: {what}", before, h)
     need(h.free_count == watched.free_count - n, f"the count: {what}", before, h)
     for k in range(7 * n + 2):
         wanted = (0, 0, 0, False) if k < 7 * n else (3, 0, 0, False)
@@ -127,7 +134,8 @@ def watched_chain(h, block, word, n, log):
         need(check.same_block(watched, h, b), f"block {b} changed by {what}", before, h)
     if block:
         check.only_that_word(watched, h, block, word, what)
-        need(h.root == watched.root and machine.read(h, block, word)[1] == value, f"the holder: {what}", h)
+        need(h.root == watched.root, f"the root: {what}", before, h)
+        equal(machine.read(h, block, word)[1], value, f"the holder: {what}")
 
 
 def watched_store(h, name, block, k, x):
@@ -137,10 +145,10 @@ def watched_store(h, name, block, k, x):
     no = getattr(chains, name)(h, block, k, x)[0]
     if no:
         need(h == before, f"a refused {what} changes something", before, h)
-        need(no != 3 or not machine.is_block(h, block) or chains.read_field(h, block, k)[0] == 3, what, h)
+        need(no != 3 or chains.read_field(h, block, k)[0] == 3, what, h)
         return
     at = object_of(before, block)[k // 7]
-    equal(chains.read_field(h, block, k)[1::2], (x, name == chains.store_field_reference.__name__), what)
+    equal(chains.read_field(h, block, k)[1::2], (x, name == "store_field_reference"), what)
     for b in facts.allocated(before):
         if b == at:
             check.only_that_word(before, h, b, k % 7, what)
@@ -163,7 +171,8 @@ def watched_call(h, name, numbers, log):
         watched_store(h, name, *numbers)
     else:
         check.watched_call(h, name, numbers, log)
-    need(facts.well_formed(h) and machine.audit(h) == (0, 1, 0), f"not well-formed after {name} {numbers}", before, h)
+    need(facts.well_formed(h), f"not well-formed after {name} {numbers}", before, h)
+    equal(machine.audit(h), (0, 1, 0), f"the audit after {name} {numbers}")
     for b in held:
         need(h.colours[b - 2] != FREE, f"reachable block {b} freed by {name} {numbers}", before, h)
 
@@ -199,6 +208,20 @@ def long_objects():
 
 # ------------------------------------------------------------------ demand 3
 
+def two_forms():
+    """Document 02's form, N + B - 1 for N, asks for more than K + 2N + B - 1."""
+    count = 0
+    for M, U, B in itertools.product(range(1, 31), range(1, 64, 3), (1, 2, 3, 10)):
+        N = facts.N(M, U)
+        for K in range(M + 1):
+            written = facts.has_room(M, U, K + 2 * (B - 1))     # K + 2(N + B - 1) <= M
+            need(not written or chains.has_room(N, M, K, B), f"M {M}, U {U}, K {K}, B {B}")
+            need(B > 1 or written == chains.has_room(N, M, K, B), f"B is 1: M {M}, U {U}, K {K}")
+            count += written
+    need(count > 0, "the form is never met")
+    return f"{count} heaps"
+
+
 def room_enough():
     """No chain of at most B blocks is refused for want of room where K + 2N +
     B - 1 is at most M; and M - K - 2N - (B - 1) blocks stay free."""
@@ -218,7 +241,8 @@ def room_enough():
             name, numbers = greedy_call(rng, h, K, B, greed)
             no = (chains.allocate_chain(h, *numbers) if name == "allocate_chain"
                   else lines.answer_of(h, name, numbers))[0]
-            need(no in (0, 5), f"refusal {no}, M {M}, U {U}, K {K}, B {B}: {name} {numbers}", before)
+            what = f"M {M}, U {U}, K {K}, B {B}: {name} {numbers}"
+            need(no in (0, 5), f"refusal {no}, {what}", before)
             need(len(facts.reachable(h)) <= K, "the run broke its own premise", before, h)
             need(h.free_count >= M - K - 2 * facts.N(M, U) - (B - 1), "the margin", before, h)
             least = min(least, h.free_count)
@@ -232,6 +256,31 @@ def room_enough():
     need(refused > 0, "the runs cannot be refused even without the premise")
     need(allocations > 3000, f"only {allocations} chains")
     return f"{allocations} chains, least room left {least}"
+
+
+def no_better_rule():
+    """With U = 2M + 2, so that N is 1: sessions that hold as many blocks as the
+    rule allows leave none free, and with one more some chain is refused by 7."""
+    for M, B in [(8, 2), (10, 3), (12, 4)]:
+        K = M - 2 - (B - 1)
+        full = any(0 in greedy_session(seed, M, K, B)[0] for seed in range(60))
+        need(full, f"M {M}, B {B}: a block is always free")
+        refused = any(7 in greedy_session(seed, M, K + 1, B)[1] for seed in range(60))
+        need(refused, f"M {M}, B {B}: never refused with K + 1")
+    return "M of 8, 10 and 12"
+
+
+def greedy_session(seed, M, K, B):
+    """The free counts after 80 calls at pace 2M + 2, and their refusals."""
+    rng = random.Random(seed)
+    h, greed = formatted(M, 2 * M + 2), rng.random()
+    counts, refusals = set(), set()
+    for _ in range(80):
+        name, numbers = greedy_call(rng, h, K, B, greed)
+        refusals.add((chains.allocate_chain(h, *numbers) if name == "allocate_chain"
+                      else lines.answer_of(h, name, numbers))[0])
+        counts.add(h.free_count)
+    return counts, refusals
 
 
 def greedy_call(rng, h, K, B, greed):
@@ -251,30 +300,50 @@ def greedy_call(rng, h, K, B, greed):
 
 # ------------------------------------------------------------- damaged heaps
 
+def as_for_blocks(before, name, numbers):
+    """What document 01's calls answer and leave, where they say the same: an
+    object of one block is Allocate's with the null reference in word 7, and a
+    field below 7 is a word. Else None."""
+    h = machine.copy(before)
+    if name == "allocate_chain" and numbers[2] == 1:
+        answer = machine.allocate(h, *numbers[:2])
+        if answer[0] == 0:
+            machine.store_reference(h, answer[1], 7, 0)
+        return answer, h
+    if name != "allocate_chain" and numbers[1] < 7:
+        return getattr(machine, name.replace("field_", "").replace("_field", ""))(h, *numbers), h
+    return None
+
+
 def damaged_heaps():
     """Any heap: every call ends and keeps the lengths; a refusal leaves only
-    its units; every answer that a call can give is met."""
+    its units; every answer that a call can give is met. One block and its words
+    are as in document 01."""
     rng = random.Random(24)
-    met = {}
+    met, alike = {}, 0
     for _ in range(6000):
         name, numbers, h = draw_chains.case(rng)
         before = machine.copy(h)
         answer = getattr(chains, name)(h, *numbers)
-        need([len(h.words), len(h.colours), len(h.bytes)]
-             == [len(before.words), len(before.colours), len(before.bytes)], f"{name} changes a length", before, h)
+        lengths = [(len(x.words), len(x.colours), len(x.bytes)) for x in (before, h)]
+        need(lengths[0] == lengths[1], f"{name} changes a length", before, h)
         if answer[0]:
             leaves_its_units(before, h, answer, name)
         if name == "read_field":
             need(h == before, "read field changes the heap", before, h)
+        as_blocks = as_for_blocks(before, name, numbers)
+        if as_blocks:
+            need(as_blocks == (answer, h), f"{name} {numbers} is not as for a block", before, h)
+            alike += 1
         met[name, answer[0]] = met.get((name, answer[0]), 0) + 1
     missing = [pair for name, answers in draw_chains.ANSWERS.items()
                for pair in [(name, no) for no in answers] if pair not in met]
     need(not missing, f"never answered: {missing}")
-    return f"{sum(met.values())} cases, {len(met)} kinds of answer"
+    return f"{sum(met.values())} cases, {len(met)} kinds of answer, {alike} as for a block"
 
 
-TESTS = [rows_of_20_fields, marking_and_pace_0, cases_by_hand, sessions, long_objects, room_enough,
-         damaged_heaps]
+TESTS = [rows_of_20_fields, marking_and_pace_0, cases_by_hand, sessions, long_objects, two_forms,
+         room_enough, no_better_rule, damaged_heaps]
 
 if __name__ == "__main__":
     sys.exit(check.main(TESTS))

@@ -4,7 +4,6 @@ heaps damaged or not. As in draw.py everything follows from the seed.
 
 import chains
 import draw
-import facts
 import lines
 import machine
 from draw import below, between, chance, one_of
@@ -38,14 +37,11 @@ def field(rng):
 
 def call(rng, h, tame=False, odd=0.04):
     """A call of a session: its name, or the letter of one of document 01's."""
-    if not chance(rng, 0.6):
-        letter, numbers = draw.call(rng, h, tame, odd)
-        return letter, numbers
-    return chained(rng, h, tame, odd)
+    return chained(rng, h, tame, odd) if chance(rng, 0.6) else draw.call(rng, h, tame, odd)
 
 
 def chained(rng, h, tame, odd):
-    name = one_of(rng, ["allocate_chain"] * 3 + ["read_field", "store_field_number", "store_field_reference"])
+    name = one_of(rng, [*ANSWERS, "allocate_chain", "allocate_chain"])
     if name == "allocate_chain" and chance(rng, 0.15 if h.root else 0.9):
         return name, [0, 0, length(rng, h)]
     block = draw.block_for(rng, h, odd)
@@ -78,7 +74,8 @@ def damage(rng, h):
     """One thing changed, as a rule one that these calls look at: a free block's
     link or colour, the count, a word 7 or its bit."""
     blocks = range(2, len(h.colours) + 2)
-    free = [b for b in blocks if machine.colour(h, b) == machine.FREE and 8 * (b - 1) <= len(h.words)]
+    free = [b for b in blocks if machine.colour(h, b) == machine.FREE
+            and 8 * (b - 1) <= len(h.words)]
     kind = below(rng, 6)
     number = lambda: one_of(rng, [0, 1, *blocks, *blocks, len(h.colours) + 2, TOP])
     if kind == 0 and free:

@@ -13,6 +13,10 @@ int main(void)
     dergamoyne_allocate(&h.regs, h.words, 0, h.colours, 0, h.bytes, 0, 0, 0);
 #elif IGNORED == 4
     dergamoyne_look(h.regs, h.words, 0, h.colours, 0, h.bytes, 0, 2);
+#elif IGNORED == 5
+    dergamoyne_heap_store_field_number(&h, 2, 0, 1);
+#elif IGNORED == 6
+    dergamoyne_allocate_chain(&h.regs, h.words, 0, h.colours, 0, h.bytes, 0, 0, 0, 1);
 #endif
     return 0;
 }

@@ -205,6 +205,25 @@ static void objects(void)
     dergamoyne_heap_close(&h);
 }
 
+/* The longest object: each of its 1,792 fields is its own. */
+static void longest(void)
+{
+    struct dergamoyne_heap h;
+    uint32_t object = 0, second = UNTOUCHED, value = UNTOUCHED;
+    expect(dergamoyne_heap_open(&h, 300, 1) == DERGAMOYNE_DONE, "a heap");
+    expect(dergamoyne_heap_new_root_object(&h, DERGAMOYNE_OBJECT_BLOCKS, &object) == DERGAMOYNE_DONE, "256 blocks");
+    for (uint32_t k = 0; k < DERGAMOYNE_OBJECT_FIELDS; k++)
+        expect(dergamoyne_heap_store_field_number(&h, object, k, k + 1) == DERGAMOYNE_DONE, "a field of 1,792");
+    for (uint32_t k = 0; k < DERGAMOYNE_OBJECT_FIELDS; k++)
+        expect(dergamoyne_heap_read_field_number(&h, object, k, &value) == DERGAMOYNE_DONE && value == k + 1, "its number");
+    expect(dergamoyne_heap_read_field_number(&h, object, DERGAMOYNE_OBJECT_FIELDS, &value) == DERGAMOYNE_NO_SUCH_WORD, "no more");
+    expect(dergamoyne_heap_new_object(&h, object, 1791, 45, &second) == DERGAMOYNE_NO_FREE_BLOCK && second == UNTOUCHED, "45 of 44");
+    expect(dergamoyne_heap_new_object(&h, object, 1791, 44, &second) == DERGAMOYNE_DONE && second == 258, "44, held by the last field");
+    expect(dergamoyne_heap_read_field_reference(&h, object, 1791, &value) == DERGAMOYNE_DONE && value == 258, "its reference");
+    expect(dergamoyne_heap_check(&h) == DERGAMOYNE_DONE && dergamoyne_heap_free_blocks(&h) == 0, "it is well-formed and full");
+    dergamoyne_heap_close(&h);
+}
+
 /* ---- lists ---- */
 
 /* Exports the list from the root on: a number of rows and the reason; what isn't complete leaves the number alone. */
@@ -295,6 +314,7 @@ int main(void)
     resuming();
     small_heap();
     objects();
+    longest();
     undersized();
     enough();
     texts();

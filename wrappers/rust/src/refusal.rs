@@ -46,7 +46,8 @@ impl fmt::Display for Refusal {
     }
 }
 
-/// A refused call. It changed nothing, except that the units done before the refusal stand; only Work, Allocate and Allocate chain have any.
+/// A refused call. It changed nothing, except that the units done before the refusal stand; only Work, Allocate and Allocate
+/// chain have any.
 #[derive(Clone, Copy, Debug, PartialEq, Eq)]
 pub struct Refused {
     pub refusal: Refusal,
