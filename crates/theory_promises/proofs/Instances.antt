@@ -3,6 +3,7 @@
 --     works-good               allocations that the test accepts meet demand 3's premises
 --     freed                    a block out of reach is freed by a cycle
 --     survives                 a block out of reach that is stored as a target within the cycle is not
+--     new-chain                a chain of three blocks reads 0 in 21 fields
 --     hand-arithmetic          cases 12 and 13 of document 01
 --     chains-good              chains that the test accepts meet them
 --     roomy, roomy-chains      200 allocations that meet demand 3's premises, and 60 chains
@@ -41,9 +42,10 @@ use Rattle.theory_promises.specs.Sessions.{NoReset, sessionDeeds, Proper
 use Rattle.theory_promises.specs.Demand3.{cycles, Good, Premises, Asking}
 use Rattle.theory_promises.specs.Instances.{fresh, leaving, before, left, plain, Freed, Survives, HandArithmetic, within, allWithin}
 use Rattle.theory_promises.specs.Instances.{namesWithin, closes, pair, goesOn, works, churn, byTurns, rooted, long, Roomy}
-use Rattle.theory_promises.specs.Instances.{chains, trio, chainsWork, RoomyChains}
+use Rattle.theory_promises.specs.Instances.{NewChain, chains, trio, chainsWork, RoomyChains}
 use Rattle.theory_promises.proofs.FreshHeap.{fresh-formed}
 use Rattle.theory_promises.proofs.Collecting.{garbage-goes}
+use Rattle.theory_promises.proofs.FreshChains.{fresh-chains}
 use Rattle.theory_promises.proofs.Rooming.{room-for, margin-for}
 
 within-has : (x : ℕ) (l : List ℕ) → within x l ≡ true → x ≢ 0 → List·Memᴰ x l
@@ -230,6 +232,15 @@ survives =
       improper = λ r. alone (closes-has (deed aUnit left) (2 ∷ []) refl r);
       white = refl;
       kept = λ f. never-freed f refl;
+    }
+
+pub new-chain : NewChain
+unfolding the-machine
+new-chain =
+    record {
+      answered = refl;
+      value = refl;
+      chain = fresh-chains fresh (fresh-formed 3 1 (omega arith) (omega arith) (omega arith)) 0 0 3 refl;
     }
 
 pub hand-arithmetic : HandArithmetic

@@ -19,6 +19,7 @@ pub mod FirstFrees
 pub mod Planning
 pub mod Serving
 pub mod Fielding
+pub mod FreshChains
 pub mod Calls
 pub mod Courses
 pub mod Keeping

@@ -6,6 +6,7 @@
 --     closes h l           the root and whatever the blocks of l name are 0 or in l
 --     churn, works         allocations at the given holders in turn; after each at most two blocks are reachable, as a test that computes
 --     chains, chainsWork   chains of three blocks at the root; after each at most its three blocks are reachable, as a test that computes
+--     NewChain             a chain of three blocks on a fresh heap, as it is when it is new
 --     Roomy                demand 3's premises, met by 200 allocations on 20 blocks with pace 5, and what follows
 --     RoomyChains          the same with B = 3, by 60 chains on 19 blocks with pace 6: K + 2N + B - 1 is M itself
 -- Assumes nothing.
@@ -28,6 +29,7 @@ use Rattle.machine.specs.Session.Call.{StoreReference, Allocate, AllocateChain,
 use Rattle.theory_promises.specs.Reachable.{Reachable, IsFree}
 use Rattle.theory_promises.specs.Deeds.{aReference, aTake, Deed, aUnit, anAct, deed, after}
 use Rattle.theory_promises.specs.Sessions.{sessionDeeds, Proper, NoBegin, FreedBy}
+use Rattle.theory_promises.specs.Objects.{FreshChain}
 use Rattle.theory_promises.specs.Demand3.{cycles, Premises, Asking}
 
 abbrev pub fresh : Heap
@@ -142,6 +144,11 @@ pub record Roomy : Type 0 where
   pub fits : 2 + 2 * cycles 20 5 ≤ 20
   pub room : (b w : ℕ) → does (Allocate b w) (session long (formatted 20 5)) .answer .refusal ≢ 7
   pub margin : 20 ≤ session long (formatted 20 5) .regs .count + 2 + 2 * cycles 20 5
+
+pub record NewChain : Type 0 where
+  pub answered : lastOf [] (AllocateChain 0 0 3) fresh .answer .refusal ≡ 0
+  pub value : lastOf [] (AllocateChain 0 0 3) fresh .answer .value ≡ 2
+  pub chain : FreshChain 3 2 (lastOf [] (AllocateChain 0 0 3) fresh .heap)
 
 abbrev pub chains : ℕ → List Call
 chains zero = []

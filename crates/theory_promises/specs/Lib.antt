@@ -3,6 +3,7 @@ pub mod Reachable
 pub mod Deeds
 pub mod Plans
 pub mod Known
+pub mod Objects
 pub mod Sessions
 pub mod Demand2
 pub mod Demand3
