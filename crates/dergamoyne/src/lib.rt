@@ -1,5 +1,5 @@
-// The outer calls, for a host in C. Six write to the heap: the host lends its one register record, and the call changes it in
-// place, over a core that takes the record by value and gives it back. Four only look, and take the record by value.
+// The outer calls, for a host in C. Eight write to the heap: the host lends its one register record, and the call changes it in
+// place, over a core that takes the record by value and gives it back. Five only look, and take the record by value.
 use call_export::ExportAnswer;
 use machine::Answer;
 use machine::ReadAnswer;
@@ -13,6 +13,7 @@ ghost use Rattle.machine.specs.Format.{format};
 ghost use Rattle.machine.specs.Read.{readRefusal, read};
 ghost use Rattle.machine.specs.Store.{storeNumber, storeReference, setRoot};
 ghost use Rattle.machine.specs.Allocate.{allocate};
+ghost use Rattle.machine.specs.Field.{readField, storeFieldNumber, storeFieldReference};
 ghost use Rattle.machine.specs.Work.{work};
 ghost use Rattle.machine.specs.Audit.{audit};
 ghost use Rattle.call_export.specs.Numbers.{exportNumbers};
@@ -166,6 +167,56 @@ pub extern "C" fn dergamoyne_allocate(
     let taken = call_allocate::allocate(*regs, words, colours, bytes, b, w);
     *regs = taken.regs;
     taken.answer
+}
+
+// Read field: field k of the object that starts at the block b, and whether it is a reference.
+#[no_mangle]
+pub extern "C" fn dergamoyne_read_field(
+    regs: Regs,
+    words: &[u32],
+    colours: &[u32],
+    bytes: &[u8],
+    b: u32,
+    k: u32,
+) -> ReadAnswer
+    ensures { λ x. ⌜ (record { answer = x; heap = heap regs (now (words .exit)) (now (colours .exit)) (now (bytes .exit)) }) ≡ readField b k (heap regs (now (words .entry)) (now (colours .entry)) (now (bytes .entry))) ⌝ }
+{
+    call_field::read_field(regs, words, colours, bytes, b, k)
+}
+
+// Store field number: field k of the object that starts at the block b becomes the number v. No register changes.
+#[no_mangle]
+pub extern "C" fn dergamoyne_store_field_number(
+    regs: &mut Regs,
+    words: &mut [u32],
+    colours: &mut [u32],
+    bytes: &mut [u8],
+    b: u32,
+    k: u32,
+    v: u32,
+) -> Answer
+    ensures { λ a. ⌜ given (record { regs = now (regs .exit); answer = a }) (now (words .exit)) (now (colours .exit)) (now (bytes .exit)) ≡ storeFieldNumber b k v (heap (now (regs .entry)) (now (words .entry)) (now (colours .entry)) (now (bytes .entry))) ⌝ }
+{
+    let stored = call_field::store_field_number(*regs, words, colours, bytes, b, k, v);
+    stored.answer
+}
+
+// Store field reference: field k of the object that starts at the block b becomes a reference to t, or the reference 0.
+#[no_mangle]
+pub extern "C" fn dergamoyne_store_field_reference(
+    regs: &mut Regs,
+    words: &mut [u32],
+    colours: &mut [u32],
+    bytes: &mut [u8],
+    b: u32,
+    k: u32,
+    t: u32,
+) -> Answer
+    ensures { λ a. ⌜ given (record { regs = now (regs .exit); answer = a }) (now (words .exit)) (now (colours .exit)) (now (bytes .exit)) ≡ storeFieldReference b k t (heap (now (regs .entry)) (now (words .entry)) (now (colours .entry)) (now (bytes .entry))) ⌝ }
+{
+    let written = call_field::store_field_reference(*regs, words, colours, bytes, b, k, t);
+    regs.grey = written.regs.grey;
+    written.answer
 }
 
 // Work: n units, n at most 65,535.

@@ -1,0 +1,2 @@
+-- What people who use objects longer than a block rely on.
+pub mod Objects
