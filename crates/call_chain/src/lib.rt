@@ -61,9 +61,9 @@ pub fn serve_chain(
     while i < n {
         let x = s.free;
         s = part_several::take_next(s, words, colours, bytes, p, v);
-        part_put::put_reference(words, bytes, x, 7, 0);
+        part_put::put_reference(words, bytes, x, machine::LINK, 0);
         p = x;
-        v = 7;
+        v = machine::LINK;
         i += 1;
     }
     s
