@@ -28,7 +28,7 @@ use Rattle.machine.proofs.Reading.{place-within, index-within}
 use Rattle.machine.proofs.Bytes.{set-here, clear-here}
 use Rattle.machine.proofs.Entering.{first-zero}
 use Rattle.machine.proofs.Fields.{field-readable, field-storable}
-use Rattle.theory_objects.specs.Objects.{NumberReadsBack, ReferenceReadsBack, Apart, FieldsStay, WordsStay, Straight, FieldsApart}
+use Rattle.theory_objects.specs.Objects.{readsAs, NumberReadsBack, ReferenceReadsBack, Apart, FieldsStay, WordsStay, Straight, FieldsApart}
 use Rattle.theory_objects.proofs.Writing.{Wrote, wrote-number, wrote-reference, wrote-after, barrier-unseen, barrier-words, barrier-bytes, tests-same, answer-same, entry-same, block-same, refusal-same}
 
 -- what a call that may be refused leaves: x where it is done, else the heap as it was
@@ -116,15 +116,21 @@ reference-words-stay h b k v a w o =
 
 -- ---- what was stored reads back
 -- a word just written
-number-written : (h : Heap) (a w v : ℕ) → Readable h a w → readAnswer a w (putNumber a w v h) ≡ record { refusal = 0; value = v; units = 0; reference = 0 }
+number-written : (h : Heap) (a w v : ℕ) → Readable h a w → readAnswer a w (putNumber a w v h) ≡ readsAs v 0
 unfolding readAnswer putNumber
 number-written h a w v d =
-    rw (getD-set-same (h .words) (place a w) v 0 (place-within d), getD-set-same (h .bytes) (index a) (withoutBit (byteOf (h .bytes) a) w) 0 (index-within d), clear-here (byteOf (h .bytes) a) w) refl
+    rw (
+      getD-set-same (h .words) (place a w) v 0 (place-within d),
+      getD-set-same (h .bytes) (index a) (withoutBit (byteOf (h .bytes) a) w) 0 (index-within d),
+      clear-here (byteOf (h .bytes) a) w) refl
 
-reference-written : (h : Heap) (a w v : ℕ) → Readable h a w → readAnswer a w (putReference a w v h) ≡ record { refusal = 0; value = v; units = 0; reference = 1 }
+reference-written : (h : Heap) (a w v : ℕ) → Readable h a w → readAnswer a w (putReference a w v h) ≡ readsAs v 1
 unfolding readAnswer putReference
 reference-written h a w v d =
-    rw (getD-set-same (h .words) (place a w) v 0 (place-within d), getD-set-same (h .bytes) (index a) (withBit (byteOf (h .bytes) a) w) 0 (index-within d), set-here (byteOf (h .bytes) a) w) refl
+    rw (
+      getD-set-same (h .words) (place a w) v 0 (place-within d),
+      getD-set-same (h .bytes) (index a) (withBit (byteOf (h .bytes) a) w) 0 (index-within d),
+      set-here (byteOf (h .bytes) a) w) refl
 
 -- the field that was written is where it was
 field-back : {h p : Heap} (b k : ℕ) → fieldRefusal b k h ≡ 0 → Wrote (fieldBlock (k / 7) b h) (k % 7) h p → readField b k p .answer ≡ readAnswer (fieldBlock (k / 7) b h) (k % 7) p

@@ -1,10 +1,11 @@
 -- A word written in a block, and what the calls see of the heap afterwards.
---     Unseen h k               no refusal tells k from h
+--     Unseen h k               no refusal tells k from h.        none-seen     h itself
 --     barrier-unseen           the barrier is unseen.        barrier-words, barrier-bytes     it leaves the words and the bytes
 --     Wrote a w h k            k is h with word w of the block a written, which no refusal sees
 --     wrote-number, wrote-reference     a number and a reference written
 --     wrote-after              unseen changes before it
---     block-same, refusal-same     a walk goes as before, where the word is no link
+--     tests-same               two tests in a row that answer as before
+--     entry-same, block-same, refusal-same     tests 1 and 2 and each walk go as before, where the word is no link
 --     answer-same              another word reads as before
 -- Assumes nothing.
 use Prim.Native.Nat.{ℕ, zero, suc, _/_, _%_, _≤_, _<_}

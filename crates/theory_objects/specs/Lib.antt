@@ -1,2 +1,3 @@
 -- What people who use objects longer than a block rely on.
 pub mod Objects
+pub mod Lengths
