@@ -1,4 +1,4 @@
-// The outer calls, for a host in C. Six write to the heap: the host lends its one register record, and the call changes it in
+// The outer calls, for a host in C. Seven write to the heap: the host lends its one register record, and the call changes it in
 // place, over a core that takes the record by value and gives it back. Four only look, and take the record by value.
 use call_export::ExportAnswer;
 use machine::Answer;
@@ -13,6 +13,7 @@ ghost use Rattle.machine.specs.Format.{format};
 ghost use Rattle.machine.specs.Read.{readRefusal, read};
 ghost use Rattle.machine.specs.Store.{storeNumber, storeReference, setRoot};
 ghost use Rattle.machine.specs.Allocate.{allocate};
+ghost use Rattle.machine.specs.Chain.{allocateChain};
 ghost use Rattle.machine.specs.Work.{work};
 ghost use Rattle.machine.specs.Audit.{audit};
 ghost use Rattle.call_export.specs.Numbers.{exportNumbers};
@@ -166,6 +167,25 @@ pub extern "C" fn dergamoyne_allocate(
     let taken = call_allocate::allocate(*regs, words, colours, bytes, b, w);
     *regs = taken.regs;
     taken.answer
+}
+
+// Allocate chain: n new blocks, 1 to 256, word 7 of each the reference to the next, for word w of the block b, or with 0, 0 for the
+// root. Its value is the first.
+#[no_mangle]
+pub extern "C" fn dergamoyne_allocate_chain(
+    regs: &mut Regs,
+    words: &mut [u32],
+    colours: &mut [u32],
+    bytes: &mut [u8],
+    b: u32,
+    w: u32,
+    n: u32,
+) -> Answer
+    ensures { λ a. ⌜ given (record { regs = now (regs .exit); answer = a }) (now (words .exit)) (now (colours .exit)) (now (bytes .exit)) ≡ allocateChain b w n (heap (now (regs .entry)) (now (words .entry)) (now (colours .entry)) (now (bytes .entry))) ⌝ }
+{
+    let chained = call_chain::allocate_chain(*regs, words, colours, bytes, b, w, n);
+    *regs = chained.regs;
+    chained.answer
 }
 
 // Work: n units, n at most 65,535.
