@@ -27,15 +27,7 @@ fn find(r: Regs, words: &[u32], colours: &[u32], bytes: &[u8], b: u32, k: u32) -
 }
 
 // Every refusal of Store field reference, or 0 and the field's block: 1, 2, 3, 4, then the walk, then 8 and 6 for the target.
-fn find_for(
-    r: Regs,
-    words: &[u32],
-    colours: &[u32],
-    bytes: &[u8],
-    b: u32,
-    k: u32,
-    t: u32,
-) -> Found
+fn find_for(r: Regs, words: &[u32], colours: &[u32], bytes: &[u8], b: u32, k: u32, t: u32) -> Found
     ensures { λ x. ⌜ Finds x (fieldStoreRefusal b k t (heap r (now (words .entry)) (now (colours .entry)) (now (bytes .entry)))) (fieldBlock (k / 7) b (heap r (now (words .entry)) (now (colours .entry)) (now (bytes .entry)))) ⌝ }
 {
     let e = part_checks::entry(r, words, colours, bytes);
@@ -62,7 +54,14 @@ fn find_for(
 }
 
 // Read field: field k of the object that starts at the block b, and whether it is a reference.
-pub fn read_field(r: Regs, words: &[u32], colours: &[u32], bytes: &[u8], b: u32, k: u32) -> ReadAnswer
+pub fn read_field(
+    r: Regs,
+    words: &[u32],
+    colours: &[u32],
+    bytes: &[u8],
+    b: u32,
+    k: u32,
+) -> ReadAnswer
     ensures { λ x.
         ⌜
         (record { answer = x; heap = heap r (now (words .exit)) (now (colours .exit)) (now (bytes .exit)) })

@@ -122,7 +122,8 @@ number-written h a w v d =
     rw (
       getD-set-same (h .words) (place a w) v 0 (place-within d),
       getD-set-same (h .bytes) (index a) (withoutBit (byteOf (h .bytes) a) w) 0 (index-within d),
-      clear-here (byteOf (h .bytes) a) w) refl
+      clear-here (byteOf (h .bytes) a) w,
+    ) refl
 
 reference-written : (h : Heap) (a w v : ℕ) → Readable h a w → readAnswer a w (putReference a w v h) ≡ readsAs v 1
 unfolding readAnswer putReference
@@ -130,7 +131,8 @@ reference-written h a w v d =
     rw (
       getD-set-same (h .words) (place a w) v 0 (place-within d),
       getD-set-same (h .bytes) (index a) (withBit (byteOf (h .bytes) a) w) 0 (index-within d),
-      set-here (byteOf (h .bytes) a) w) refl
+      set-here (byteOf (h .bytes) a) w,
+    ) refl
 
 -- the field that was written is where it was
 field-back : {h p : Heap} (b k : ℕ) → fieldRefusal b k h ≡ 0 → Wrote (fieldBlock (k / 7) b h) (k % 7) h p → readField b k p .answer ≡ readAnswer (fieldBlock (k / 7) b h) (k % 7) p
