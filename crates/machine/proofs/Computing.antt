@@ -14,7 +14,7 @@ use Rattle.machine.specs.Format.{freeList, formatted, format}
 use Rattle.machine.specs.Read.{readRefusal, readAnswer, read}
 use Rattle.machine.specs.Store.{barrier, putNumber, putReference, storeNumber, storeRefusal, storeReference, rootRefusal, setRoot}
 use Rattle.machine.specs.Allocate.{unitsDue, firstFits, listRefusal, newColour, taken, held, takeRefusal, allocated, allocate}
-use Rattle.machine.specs.Several.{firstFrees, listWalks, amongst, distinct, severalRefusal, takeSeveralRefusal, nulled, zeroed, serve, severalTaken}
+use Rattle.machine.specs.Several.{frees, headRefusal, firstFrees, listWalks, amongst, distinct, severalRefusal, takeSeveralRefusal, nulled, zeroed, serve, severalTaken}
 use Rattle.machine.specs.Chain.{chainLength, allocateChain}
 use Rattle.machine.specs.Field.{fieldPlace, fieldBlock, linkRefusal, walkRefusal, fieldRefusal, readField, storeFieldNumber, fieldStoreRefusal, storeFieldReference}
 use Rattle.machine.specs.Work.{countRefusal, work}
@@ -26,7 +26,7 @@ unfolding _▷_ isBlock eightWords withEight bit withBit withoutBit referencesFr
     step metBlock metWord begun marked allSound turned advance reclaimed whitened passed act unit run
     freeList formatted format readRefusal readAnswer read barrier putNumber putReference storeNumber storeRefusal storeReference rootRefusal setRoot
     unitsDue firstFits listRefusal newColour taken held takeRefusal allocated allocate
-    firstFrees listWalks amongst distinct severalRefusal takeSeveralRefusal nulled zeroed serve severalTaken chainLength allocateChain
+    frees headRefusal firstFrees listWalks amongst distinct severalRefusal takeSeveralRefusal nulled zeroed serve severalTaken chainLength allocateChain
     fieldPlace fieldBlock linkRefusal walkRefusal fieldRefusal readField storeFieldNumber fieldStoreRefusal storeFieldReference
     countRefusal work does session lastOf
 the-machine = tt

@@ -73,5 +73,5 @@ gathered n b h e =
       holder = λ z. simp (ne-eqb b 0 z) at (a .0);
       count = leb-true n (h .regs .count) (choose-zero (leb n (h .regs .count)) 7 (omega arith) (d .0));
       walks = k .0;
-      different = k .1
+      different = k .1;
     }

@@ -85,9 +85,9 @@ module _ (n i : ℕ) (at : ℕ → ℕ) (m : ℕ) (h : Heap) (s : Listed n at m)
         count = omega arith;
         first = λ k. ap (linkOf h) f ∙ d .links i (omega arith) k;
         links = λ j g k.
-        let o : h .regs .free ≢ at j = λ e. s .apart i j (omega arith) (omega arith) (sym f ∙ e) in
-        let b : Block m (h .regs .free) = rw f (s .block i l) in
-        other-word (h .words) 0 0 b (s .block j (omega arith)) (omega arith) o ∙ d .links j (omega arith) k
+            let o : h .regs .free ≢ at j = λ e. s .apart i j (omega arith) (omega arith) (sym f ∙ e) in
+            let b : Block m (h .regs .free) = rw f (s .block i l) in
+            other-word (h .words) 0 0 b (s .block j (omega arith)) (omega arith) o ∙ d .links j (omega arith) k;
       }
 
 module _ (n i : ℕ) (at : ℕ → ℕ) (m : ℕ) (h : Heap) (s : Listed n at m) (d : Waiting n i at m h) where
@@ -103,7 +103,7 @@ module _ (n i : ℕ) (at : ℕ → ℕ) (m : ℕ) (h : Heap) (s : Listed n at m)
           bytes = simp length-set (d .bytes);
           count = d .count;
           first = d .first;
-          links = λ j g k. other-word (h .words) w t b (s .block j (omega arith)) l (o j g (omega arith)) ∙ d .links j g k
+          links = λ j g k. other-word (h .words) w t b (s .block j (omega arith)) l (o j g (omega arith)) ∙ d .links j g k;
         }
 
     pub put-number-waits : Waiting n i at m (putNumber p w t h)
@@ -116,7 +116,7 @@ module _ (n i : ℕ) (at : ℕ → ℕ) (m : ℕ) (h : Heap) (s : Listed n at m)
           bytes = simp length-set (d .bytes);
           count = d .count;
           first = d .first;
-          links = λ j g k. other-word (h .words) w t b (s .block j (omega arith)) l (o j g (omega arith)) ∙ d .links j g k
+          links = λ j g k. other-word (h .words) w t b (s .block j (omega arith)) l (o j g (omega arith)) ∙ d .links j g k;
         }
 
   pub held-waits : (p w x : ℕ) → Placed n i at m p w → Waiting n i at m (held p w x h)
@@ -159,7 +159,7 @@ placed f n i at m b w xs g s q e l = by-eq i 0
     (record {
       block = λ y. rw a (s .block (f .parent i) (omega arith));
       low = λ y. g .low i l;
-      other = λ y j k v x. s .apart (f .parent i) j (omega arith) v (sym a ∙ x)
+      other = λ y j k v x. s .apart (f .parent i) j (omega arith) v (sym a ∙ x);
     }))
 
 -- a free block is not live
@@ -193,22 +193,22 @@ served-start f b w n h d p e =
       within = omega arith;
       listed = record { block = walks-blocks h n (h .regs .free) (g .walks) (d .free); apart = apart h n (h .regs .free) (g .different) };
       holder =
-      record {
-        block = λ z. p z .0;
-        low = λ z. p z .1;
-        other = λ z j k l q. free-gone h b (rw q (walks-free h n (h .regs .free) (g .walks) j l)) (holder-live h b (g .holder z))
-      };
+          record {
+            block = λ z. p z .0;
+            low = λ z. p z .1;
+            other = λ z j k l q. free-gone h b (rw q (walks-free h n (h .regs .free) (g .walks) j l)) (holder-live h b (g .holder z));
+          };
       waiting =
-      record {
-        blocks = refl;
-        words = d .words;
-        colours = d .colours;
-        bytes = d .bytes;
-        count = let c = g .count in omega arith;
-        first = λ l. refl;
-        links = λ j k l. rw (add-one j) refl
-      };
-      whole = let z : n - 0 ≡ n = omega arith in rw z refl
+          record {
+            blocks = refl;
+            words = d .words;
+            colours = d .colours;
+            bytes = d .bytes;
+            count = let c = g .count in omega arith;
+            first = λ l. refl;
+            links = λ j k l. rw (add-one j) refl;
+          };
+      whole = let z : n - 0 ≡ n = omega arith in rw z refl;
     }
 
 module _ (f : Form) (b w n : ℕ) (h₀ : Heap) (i : ℕ) (h : Heap) (g : Hanging f n) (d : Served f b w n h₀ i h) (l : i < n) {p v : ℕ}
@@ -223,9 +223,14 @@ module _ (f : Form) (b w n : ℕ) (h₀ : Heap) (i : ℕ) (h : Heap) (g : Hangin
       let q = d .waiting in
       let m = q .blocks in
       let c = q .count in
-      let t = next-placed in
-      (rw m (q .words), rw m (q .colours), rw m (q .bytes), block-as m (rw (q .first l) (d .listed .block i l)), omega arith,
-      λ z. (block-as m (t .block z), t .low z))
+      let t = next-placed in (
+        rw m (q .words),
+        rw m (q .colours),
+        rw m (q .bytes),
+        block-as m (rw (q .first l) (d .listed .block i l)),
+        omega arith,
+        λ z. (block-as m (t .block z), t .low z),
+      )
 
   pub served-on : {x : Heap} → x ≡ filled f i (h .regs .free) (held p v (h .regs .free) (taken h)) → Served f b w n h₀ (i + 1) x
   unfolding serve
@@ -245,7 +250,7 @@ module _ (f : Form) (b w n : ℕ) (h₀ : Heap) (i : ℕ) (h : Heap) (g : Hangin
         listed = s;
         holder = d .holder;
         waiting = rw q fills;
-        whole = serve-on (n - i) (n - (i + 1)) (omega arith) (d .whole)
+        whole = serve-on (n - i) (n - (i + 1)) (omega arith) (d .whole);
       }
     where
       serve-on : (j c : ℕ) → j ≡ c + 1 → serve f b w (firstFrees n h₀) n 0 h₀ ≡ serve f b w (firstFrees n h₀) j i h

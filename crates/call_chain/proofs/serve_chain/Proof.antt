@@ -54,10 +54,11 @@ loop-again c =
     let c-put = c .before .before .before .before .put-reference in
     let l = c .before .before .before .before .before .before .before .before .before .before .before .before .before .before .before .before .before .loop-test .taken in
     let c-args = c .before .before .before .before .before .before .before .before .before .before .before .before .before .before .before .before .before .before .before .before .before .before .args in
-    let whole = c-put .ensures _ _ ∙ ap (putReference _ _ _) (c-take .ensures) in
-    (served-on chain _ _ _ _ _ _ (chain-hangs _) (c-loop .inv .0) l (c-loop .inv .1) (c-loop .inv .2) (chain-filled (c-loop .i) _ _ whole),
-    chain-parent _ _ _ _ l (c-loop .inv .0 .waiting .first l),
-    chain-word (c-args .w) (c-loop .i))
+    let whole = c-put .ensures _ _ ∙ ap (putReference _ _ _) (c-take .ensures) in (
+      served-on chain _ _ _ _ _ _ (chain-hangs _) (c-loop .inv .0) l (c-loop .inv .1) (c-loop .inv .2) (chain-filled (c-loop .i) _ _ whole),
+      chain-parent _ _ _ _ l (c-loop .inv .0 .waiting .first l),
+      chain-word (c-args .w) (c-loop .i),
+    )
 
 same-length : tie.Need-same-length Inv-loop μ-loop
 same-length c = c .before .loop .inv .0 .waiting .words ∙ sym (c .before .before .before .before .before .pre .0 .words)
