@@ -9,21 +9,7 @@ ghost use Rattle.machine.specs.Heap.{heap};
 ghost use Rattle.machine.specs.Ready.{Ready};
 ghost use Rattle.machine.specs.Answers.{given};
 ghost use Rattle.machine.specs.Units.{stopped};
-ghost use Rattle.machine.specs.Allocate.{unitsDue, allocated, allocate};
-
-// The units that an allocation does first: the pace, or at pace 0 twice M / F, F being the free count, 0 counted as 1.
-pub fn units_due(r: Regs) -> u32
-    requires { ⌜ r .blocks ≤ 16384 ⌝ }
-    ensures { λ n. ⌜ n ≡ unitsDue r ⌝ }
-{
-    if r.pace != 0 {
-        return r.pace;
-    }
-    if r.count == 0 {
-        return 2 * r.blocks;
-    }
-    2 * (r.blocks / r.count)
-}
+ghost use Rattle.machine.specs.Allocate.{allocated, allocate};
 
 // What an allocation does once its units are done.
 pub fn allocate_after(
@@ -66,7 +52,7 @@ pub fn allocate(
     if p != 0 {
         return part_checks::refused(r, p);
     }
-    let ran = part_units::run(r, words, colours, bytes, units_due(r));
+    let ran = part_units::run(r, words, colours, bytes, part_units::units_due(r));
     let s = ran.regs;
     if ran.refusal != 0 {
         return part_checks::answered(s, ran.refusal, 0, ran.units);

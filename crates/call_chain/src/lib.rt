@@ -12,7 +12,7 @@ ghost use Rattle.machine.specs.Ready.{Ready};
 ghost use Rattle.machine.specs.Entry.{holderPlace};
 ghost use Rattle.machine.specs.Answers.{given};
 ghost use Rattle.machine.specs.Units.{stopped};
-ghost use Rattle.machine.specs.Several.{firstFrees, takeSeveralRefusal, serve, severalTaken};
+ghost use Rattle.machine.specs.Several.{severalTaken};
 ghost use Rattle.machine.specs.Chain.{chain, chainLength, allocateChain};
 
 // Refusal 3 for a chain that isn't 1 to 256 blocks long.
@@ -40,35 +40,6 @@ pub fn chain_place(m: u32, b: u32, w: u32, n: u32) -> u32
     chain_length(n)
 }
 
-// The first n of the free list are taken, and chained in its order: word w of b holds the first, or the root where b is 0, and word 7
-// of each block the next one. Answers the registers afterwards.
-pub fn serve_chain(
-    r: Regs,
-    words: &mut [u32],
-    colours: &mut [u32],
-    bytes: &mut [u8],
-    b: u32,
-    w: u32,
-    n: u32,
-) -> Regs
-    requires { ⌜ Ready (heap r (now words) (now colours) (now bytes)) × (b ≢ 0 → Block (r .blocks) b × (w ≤ 7)) × (takeSeveralRefusal n b (heap r (now words) (now colours) (now bytes)) ≡ 0) ⌝ }
-    ensures { λ s. ⌜ heap s (now (words .exit)) (now (colours .exit)) (now (bytes .exit)) ≡ serve chain b w (firstFrees n (heap r (now (words .entry)) (now (colours .entry)) (now (bytes .entry)))) n 0 (heap r (now (words .entry)) (now (colours .entry)) (now (bytes .entry))) ⌝ }
-{
-    let mut s = r;
-    let mut p = b;
-    let mut v = w;
-    let mut i = 0;
-    while i < n {
-        let x = s.free;
-        s = part_several::take_next(s, words, colours, bytes, p, v);
-        part_put::put_reference(words, bytes, x, machine::LINK, 0);
-        p = x;
-        v = machine::LINK;
-        i += 1;
-    }
-    s
-}
-
 // What the call does once its units are done.
 pub fn chain_after(
     r: Regs,
@@ -87,7 +58,7 @@ pub fn chain_after(
     if e != 0 {
         return part_checks::answered(r, e, 0, units);
     }
-    let s = serve_chain(r, words, colours, bytes, b, w, n);
+    let s = part_chain::serve_chain(r, words, colours, bytes, b, w, n);
     part_checks::answered(s, 0, r.free, units)
 }
 
@@ -111,7 +82,7 @@ pub fn allocate_chain(
     if p != 0 {
         return part_checks::refused(r, p);
     }
-    let ran = part_units::run(r, words, colours, bytes, n * call_allocate::units_due(r));
+    let ran = part_units::run(r, words, colours, bytes, n * part_units::units_due(r));
     let s = ran.regs;
     if ran.refusal != 0 {
         return part_checks::answered(s, ran.refusal, 0, ran.units);

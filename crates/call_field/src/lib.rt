@@ -3,53 +3,34 @@
 use machine::Outcome;
 use machine::ReadAnswer;
 use machine::Regs;
-use part_field::Found;
 ghost use mathlib.Core.Path.{_≡_};
-ghost use Prim.Native.Nat.{_/_};
 ghost use Rattle.machine.specs.Heap.{heap};
 ghost use Rattle.machine.specs.Answers.{given};
-ghost use Rattle.part_field.specs.Finds.{Finds};
-ghost use Rattle.machine.specs.Field.{fieldBlock, fieldRefusal, readField, storeFieldNumber, fieldStoreRefusal, storeFieldReference};
+ghost use Rattle.machine.specs.Tests.{_▷_};
+ghost use Rattle.machine.specs.Entry.{entry};
+ghost use Rattle.machine.specs.Read.{readRefused};
+ghost use Rattle.machine.specs.Field.{fieldPlace, readField, storeFieldNumber, storeFieldReference};
 
-// Every refusal of Read field and of Store field number, or 0 and the field's block: 1, 2, 3, then the walk.
-fn find(r: Regs, words: &[u32], colours: &[u32], bytes: &[u8], b: u32, k: u32) -> Found
-    ensures { λ x. ⌜ Finds x (fieldRefusal b k (heap r (now (words .entry)) (now (colours .entry)) (now (bytes .entry)))) (fieldBlock (k / 7) b (heap r (now (words .entry)) (now (colours .entry)) (now (bytes .entry)))) ⌝ }
+// Refusals 1, 2 and 3 of a call on field k of the object that starts at the block b.
+fn start_refusal(r: Regs, words: &[u32], colours: &[u32], bytes: &[u8], b: u32, k: u32) -> u32
+    ensures { λ n. ⌜ n ≡ entry (heap r (now (words .entry)) (now (colours .entry)) (now (bytes .entry))) ▷ fieldPlace (r .blocks) b k ⌝ }
 {
     let e = part_checks::entry(r, words, colours, bytes);
     if e != 0 {
-        return part_field::none(e);
+        return e;
     }
-    let p = part_field::field_place(r.blocks, b, k);
-    if p != 0 {
-        return part_field::none(p);
-    }
-    part_field::walk(r, words, colours, bytes, b, k / machine::FIELDS)
+    part_field::field_place(r.blocks, b, k)
 }
 
-// Every refusal of Store field reference, or 0 and the field's block: 1, 2, 3, 4, then the walk, then 8 and 6 for the target.
-fn find_for(r: Regs, words: &[u32], colours: &[u32], bytes: &[u8], b: u32, k: u32, t: u32) -> Found
-    ensures { λ x. ⌜ Finds x (fieldStoreRefusal b k t (heap r (now (words .entry)) (now (colours .entry)) (now (bytes .entry)))) (fieldBlock (k / 7) b (heap r (now (words .entry)) (now (colours .entry)) (now (bytes .entry)))) ⌝ }
+// Read field refused by n.
+fn unread(n: u32) -> ReadAnswer
+    ensures { λ x. ⌜ x ≡ readRefused n ⌝ }
 {
-    let e = part_checks::entry(r, words, colours, bytes);
-    if e != 0 {
-        return part_field::none(e);
-    }
-    let p = part_field::field_place(r.blocks, b, k);
-    if p != 0 {
-        return part_field::none(p);
-    }
-    let q = part_checks::target_place(r.blocks, t);
-    if q != 0 {
-        return part_field::none(q);
-    }
-    let f = part_field::walk(r, words, colours, bytes, b, k / machine::FIELDS);
-    if f.refusal != 0 {
-        return part_field::none(f.refusal);
-    }
-    let d = part_checks::target_refusal(r.blocks, r.phase, r.position, colours, t);
-    Found {
-        refusal: d,
-        block: f.block,
+    ReadAnswer {
+        refusal: n,
+        value: 0,
+        units: 0,
+        reference: 0,
     }
 }
 
@@ -68,16 +49,16 @@ pub fn read_field(
         ≡ readField b k (heap r (now (words .entry)) (now (colours .entry)) (now (bytes .entry)))
         ⌝ }
 {
-    let f = find(r, words, colours, bytes, b, k);
-    if f.refusal != 0 {
-        return ReadAnswer {
-            refusal: f.refusal,
-            value: 0,
-            units: 0,
-            reference: 0,
-        };
+    let e = start_refusal(r, words, colours, bytes, b, k);
+    if e != 0 {
+        return unread(e);
     }
-    part_cells::read_word(words, bytes, f.block, k % machine::FIELDS)
+    let x = part_field::walk(r, words, colours, bytes, b, k / machine::FIELDS);
+    let d = part_field::walk_refusal(r, words, colours, bytes, x);
+    if d != 0 {
+        return unread(d);
+    }
+    part_cells::read_word(words, bytes, x.block, k % machine::FIELDS)
 }
 
 // Store field number: field k of the object that starts at the block b becomes the number v.
@@ -92,11 +73,23 @@ pub fn store_field_number(
 ) -> Outcome
     ensures { λ o. ⌜ given o (now (words .exit)) (now (colours .exit)) (now (bytes .exit)) ≡ storeFieldNumber b k v (heap r (now (words .entry)) (now (colours .entry)) (now (bytes .entry))) ⌝ }
 {
-    let f = find(r, &words[..], &colours[..], &bytes[..], b, k);
-    if f.refusal != 0 {
-        return part_checks::refused(r, f.refusal);
+    let e = start_refusal(r, &words[..], &colours[..], &bytes[..], b, k);
+    if e != 0 {
+        return part_checks::refused(r, e);
     }
-    part_put::put_number(words, bytes, f.block, k % machine::FIELDS, v);
+    let x = part_field::walk(
+        r,
+        &words[..],
+        &colours[..],
+        &bytes[..],
+        b,
+        k / machine::FIELDS,
+    );
+    let d = part_field::walk_refusal(r, &words[..], &colours[..], &bytes[..], x);
+    if d != 0 {
+        return part_checks::refused(r, d);
+    }
+    part_put::put_number(words, bytes, x.block, k % machine::FIELDS, v);
     part_checks::done(r, 0)
 }
 
@@ -112,11 +105,31 @@ pub fn store_field_reference(
 ) -> Outcome
     ensures { λ o. ⌜ given o (now (words .exit)) (now (colours .exit)) (now (bytes .exit)) ≡ storeFieldReference b k t (heap r (now (words .entry)) (now (colours .entry)) (now (bytes .entry))) ⌝ }
 {
-    let f = find_for(r, &words[..], &colours[..], &bytes[..], b, k, t);
-    if f.refusal != 0 {
-        return part_checks::refused(r, f.refusal);
+    let e = start_refusal(r, &words[..], &colours[..], &bytes[..], b, k);
+    if e != 0 {
+        return part_checks::refused(r, e);
+    }
+    let p = part_checks::target_place(r.blocks, t);
+    if p != 0 {
+        return part_checks::refused(r, p);
+    }
+    let x = part_field::walk(
+        r,
+        &words[..],
+        &colours[..],
+        &bytes[..],
+        b,
+        k / machine::FIELDS,
+    );
+    let d = part_field::walk_refusal(r, &words[..], &colours[..], &bytes[..], x);
+    if d != 0 {
+        return part_checks::refused(r, d);
+    }
+    let q = part_checks::target_refusal(r.blocks, r.phase, r.position, &colours[..], t);
+    if q != 0 {
+        return part_checks::refused(r, q);
     }
     let s = part_put::barrier(r, colours, t);
-    part_put::put_reference(words, bytes, f.block, k % machine::FIELDS, t);
+    part_put::put_reference(words, bytes, x.block, k % machine::FIELDS, t);
     part_checks::done(s, 0)
 }

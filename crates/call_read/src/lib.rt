@@ -23,22 +23,7 @@ pub fn read(r: Regs, words: &[u32], colours: &[u32], bytes: &[u8], b: u32, w: u3
             reference: 0,
         };
     }
-    let at = b as usize - 2;
-    let value = words[8 * at + w as usize];
-    if part_cells::bit(bytes[at], w as usize) {
-        return ReadAnswer {
-            refusal: 0,
-            value: value,
-            units: 0,
-            reference: 1,
-        };
-    }
-    ReadAnswer {
-        refusal: 0,
-        value: value,
-        units: 0,
-        reference: 0,
-    }
+    part_cells::read_word(words, bytes, b, w)
 }
 
 // Look: the block's own eight words, where they stand in the word buffer, or the empty part at the buffer's start.

@@ -1,2 +1,2 @@
--- What is proved of what is found, and the functions' proofs.
-pub mod Finding
+-- Laws of a walk.
+pub mod Walking

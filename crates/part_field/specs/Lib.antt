@@ -1,2 +1,2 @@
--- What the walk answers.
-pub mod Finds
+-- How far a walk comes.
+pub mod Walks

@@ -1,5 +1,5 @@
-// Taking several blocks at once. First the tests of the first n of the free list, all before the first take; then one take, which
-// a call repeats. Which earlier block names each new one, and what is filled in, is the call's own: a form.
+// Before several blocks are taken at once: the tests of the holder and of the first n of the free list. All of them stand before the
+// first take. How the blocks are taken and what is filled in is the call's own.
 use machine::Regs;
 ghost use mathlib.Core.Path.{_≡_};
 ghost use mathlib.Core.Logic.{_≢_};
@@ -8,7 +8,6 @@ ghost use Prim.Native.Nat.{ℕ, _≤_, _*_};
 ghost use lib.ListN.{length};
 ghost use Rattle.machine.specs.WellFormed.{Block};
 ghost use Rattle.machine.specs.Heap.{heap};
-ghost use Rattle.machine.specs.Allocate.{taken, held};
 ghost use Rattle.machine.specs.Several.{frees, amongst, headRefusal, severalRefusal, takeSeveralRefusal};
 ghost use Rattle.part_several.specs.Walk.{fitsAt, walkedTo, Within};
 
@@ -115,20 +114,4 @@ pub fn take_several_refusal(r: Regs, words: &[u32], colours: &[u32], n: u32, b: 
         return d;
     }
     several_refusal(r, words, colours, n)
-}
-
-// The first free block is taken and held by word w of the block p, or by the root where p is 0. Answers the registers afterwards.
-pub fn take_next(
-    r: Regs,
-    words: &mut [u32],
-    colours: &mut [u32],
-    bytes: &mut [u8],
-    p: u32,
-    w: u32,
-) -> Regs
-    requires { ⌜ (length (now words) ≡ 8 * r .blocks) × (length (now colours) ≡ r .blocks) × (length (now bytes) ≡ r .blocks) × Block (r .blocks) (r .free) × (1 ≤ r .count) × (p ≢ 0 → Block (r .blocks) p × (w ≤ 7)) ⌝ }
-    ensures { λ s. ⌜ heap s (now (words .exit)) (now (colours .exit)) (now (bytes .exit)) ≡ held p w (r .free) (taken (heap r (now (words .entry)) (now (colours .entry)) (now (bytes .entry)))) ⌝ }
-{
-    let s = part_take::take(r, words, colours);
-    part_take::hold(s, words, bytes, p, w, r.free)
 }

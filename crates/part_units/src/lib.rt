@@ -1,5 +1,6 @@
 // The collector: n units in a row. Units of one phase are done in a loop of that phase, which keeps what changes in machine
-// registers; `run` goes from loop to loop. Here are the units that begin a cycle and that end marking, which come alone.
+// registers; `run` goes from loop to loop. Here are the units that begin a cycle and that end marking, which come alone, and how many
+// units an allocation has to pay.
 use machine::Ran;
 use machine::Regs;
 use machine::Step;
@@ -19,6 +20,7 @@ ghost use Rattle.machine.specs.Heap.{heap};
 ghost use Rattle.machine.specs.Ready.{Ready};
 ghost use Rattle.machine.specs.OneUnit.{metBlock, begun, turned};
 ghost use Rattle.machine.specs.Units.{run, ran};
+ghost use Rattle.machine.specs.Allocate.{unitsDue};
 ghost use Rattle.part_step.specs.declared.End.the-variants.{Finished};
 ghost use Rattle.part_step.specs.Going.{Went};
 
@@ -119,4 +121,18 @@ pub fn run(r: Regs, words: &mut [u32], colours: &mut [u32], bytes: &mut [u8], n:
         units: n,
         refusal: 0,
     }
+}
+
+// The units that an allocation does first: the pace, or at pace 0 twice M / F, F being the free count, 0 counted as 1.
+pub fn units_due(r: Regs) -> u32
+    requires { ⌜ r .blocks ≤ 16384 ⌝ }
+    ensures { λ n. ⌜ n ≡ unitsDue r ⌝ }
+{
+    if r.pace != 0 {
+        return r.pace;
+    }
+    if r.count == 0 {
+        return 2 * r.blocks;
+    }
+    2 * (r.blocks / r.count)
 }

@@ -28,7 +28,7 @@ returns c =
 serve-chain-requires : tie.Need-serve-chain-requires
 serve-chain-requires c κs =
     let c-pre = c .before .before .before .before .before .before .before .before .before .before .pre in
-    (c-pre .0, c-pre .1, sym (c .before .before .before .before .take-several-refusal .ensures _) ∙ c .before .before .before .if1 .left)
+    (c-pre .0, c-pre .1, c-pre .2, sym (c .before .before .before .before .take-several-refusal .ensures _) ∙ c .before .before .before .if1 .left)
 
 answered-requires-2 : tie.Need-answered-requires-2
 answered-requires-2 c κs = tt

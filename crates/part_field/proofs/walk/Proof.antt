@@ -1,13 +1,10 @@
 -- `part_field::walk` meets its contract: what the whole walk gives is what the rest of it gives. Assumes nothing.
-use Prim.Native.Nat.{_-_}
 use mathlib.Core.Path.{refl}
 use native.Mathlib.Omega.{arith}
 use Rattle.machine.specs.Heap.{heap}
-use Rattle.machine.proofs.Tests.{so}
-use Rattle.machine.proofs.Blocks.{block-as}
-use Rattle.machine.proofs.Fields.{OnWay, way-begins, way-on, way-off, way-ends}
+use Rattle.machine.proofs.Fields.{OnWay, way-begins, way-on}
+use Rattle.part_field.proofs.Walking.{walk-stops, walk-ends}
 use borrow.Author.Needs.{needs}
-use Rattle.part_field.proofs.Finding.{refused-by}
 use Rattle.part_field.proofs.walk.Statement.{statement}
 use Rattle.part_field.proofs.walk.Tie as tie
 
@@ -20,38 +17,44 @@ abbrev μ-loop : tie.MeasureT-loop
 loop-holds : tie.Need-loop-holds Inv-loop μ-loop
 loop-holds c = let (d, l) = c .before .before .before .pre in way-begins _ _ _ l
 
-follow-requires : tie.Need-follow-requires Inv-loop μ-loop
-follow-requires c κs = let (d, l) = c .before .before .before .before .before .pre in (d, c .before .loop .inv .here)
-
-none-requires : tie.Need-none-requires Inv-loop μ-loop
-none-requires c κs = tt
+follow-refusal-requires : tie.Need-follow-refusal-requires Inv-loop μ-loop
+follow-refusal-requires c κs = let (d, l) = c .before .before .before .before .before .pre in (d, c .before .loop .inv .here)
 
 returns : tie.Need-returns Inv-loop μ-loop
-returns c =
-    let c-loop = c .before .before .before .before .before .loop in
-    let c-follow = c .before .before .before .follow in
-    refused-by (c .none .ensures) (way-off (c-loop .inv) (c-loop .left - 1) _ (omega arith) (c-follow .ensures .refusal) (c .before .if1 .taken)) (c .before .if1 .taken)
+returns c = walk-stops (c .before .before .before .loop .inv) (c .before .follow-refusal .ensures) (c .if1 .taken)
+
+cast-at : tie.Need-cast-at Inv-loop μ-loop
+cast-at c = search needs
+
+sub-at : tie.Need-sub-at Inv-loop μ-loop
+sub-at c = c .before .before .before .loop .inv .here .low
+
+mul-at : tie.Need-mul-at Inv-loop μ-loop
+mul-at c = search needs
+
+cast-at-2 : tie.Need-cast-at-2 Inv-loop μ-loop
+cast-at-2 c = search needs
+
+add-at : tie.Need-add-at Inv-loop μ-loop
+add-at c = search needs
+
+mul-at-2 : tie.Need-mul-at-2 Inv-loop μ-loop
+mul-at-2 c = search needs
+
+shared-slice-read-at : tie.Need-shared-slice-read-at Inv-loop μ-loop
+shared-slice-read-at c = let (d, l) = c .before .before .before .before .before .before .before .before .pre in let i = c .before .before .before .before .loop .inv .here in omega arith
 
 sub-left : tie.Need-sub-left Inv-loop μ-loop
-sub-left c = omega arith
+sub-left c = search needs
 
 loop-less : tie.Need-loop-less Inv-loop μ-loop
-loop-less c = omega arith
+loop-less c = search needs
 
 loop-again : tie.Need-loop-again Inv-loop μ-loop
-loop-again c =
-    let c-loop = c .before .before .before .before .loop in
-    let c-follow = c .before .before .follow in
-    way-on (c-loop .inv) _ _ _ (omega arith) (c-follow .ensures .refusal) (c .if1 .left) (c-follow .ensures .block (so (c-follow .ensures .refusal) (c .if1 .left)))
-
-holder-refusal-requires : tie.Need-holder-refusal-requires Inv-loop μ-loop
-holder-refusal-requires c κs =
-    let (d, l) = c .before .before .before .before .before .pre in (d .most, block-as (d .colours) (c .before .loop .inv .here))
+loop-again c = way-on (c .before .before .before .before .loop .inv) _ _ _ (omega arith) (c .before .before .follow-refusal .ensures) (c .before .if1 .left) refl
 
 returns-2 : tie.Need-returns-2 Inv-loop μ-loop
-returns-2 c =
-    let e = way-ends (c .before .before .loop .inv) _ (omega arith) (c .holder-refusal .ensures _ _ _ refl refl refl) in
-    record { refusal = e .0; block = λ z. e .1 }
+returns-2 c = walk-ends (c .before .loop .inv) (omega arith)
 
 pub walk-spec : {M : Type 1} → statement M
 walk-spec =
@@ -60,11 +63,16 @@ walk-spec =
     Inv-loop
     μ-loop
     loop-holds
-    follow-requires
-    none-requires
+    follow-refusal-requires
     returns
+    cast-at
+    sub-at
+    mul-at
+    cast-at-2
+    add-at
+    mul-at-2
+    shared-slice-read-at
     sub-left
     loop-less
     loop-again
-    holder-refusal-requires
     returns-2)

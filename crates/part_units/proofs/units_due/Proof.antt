@@ -1,10 +1,10 @@
--- `call_allocate::units_due` meets its contract. Assumes nothing.
+-- `part_units::units_due` meets its contract. Assumes nothing.
 use native.Mathlib.Omega.{arith}
 use native.Mathlib.Nat.{div-le-self}
 use Rattle.machine.proofs.Allocating.{due-pace, due-none, due-share}
 use borrow.Author.Needs.{needs}
-use Rattle.call_allocate.proofs.units_due.Statement.{statement}
-use Rattle.call_allocate.proofs.units_due.Tie as tie
+use Rattle.part_units.proofs.units_due.Statement.{statement}
+use Rattle.part_units.proofs.units_due.Tie as tie
 
 returns : tie.Need-returns
 returns c = due-pace _ (c .if1 .taken)

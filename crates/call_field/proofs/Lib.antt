@@ -1,0 +1,2 @@
+-- Laws that the calls share.
+pub mod Starting

@@ -1,0 +1,2 @@
+-- A law of Read.
+pub mod Found

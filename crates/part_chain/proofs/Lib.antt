@@ -1,0 +1,2 @@
+-- Laws of laying a chain.
+pub mod Laying
