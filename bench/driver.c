@@ -23,6 +23,8 @@ enum { MOST = 16384 };
 static struct MACHINE(regs) r;
 static uint32_t m, words[8 * MOST], colours[MOST];
 static uint8_t bytes[MOST];
+enum { ROOM = 7000 };
+static uint32_t out[ROOM];
 #define LENT words, 8 * (size_t)m, colours, m, bytes, m
 
 /* The call's name; the measure's name, NULL where a call only prepares; its units; whether this program counts. */
@@ -329,6 +331,38 @@ static void object_measures(void)
     audit();
 }
 
+/* ---- exports: each measure is n rows in one call, and what the larger n adds is a row each ---- */
+
+/* A list of n objects of k blocks each, linked by field 0. */
+static void rows(uint32_t n, uint32_t k)
+{
+    all(WHITE);
+    r.root = 2;
+    for (uint32_t i = 0; i < n * k; i++)
+        refer(2 + i, 7, i % k == k - 1 ? 0 : 3 + i);
+    for (uint32_t i = 0; i < n; i++)
+        refer(2 + i * k, 0, i == n - 1 ? 0 : 2 + (i + 1) * k);
+    audit();
+}
+
+/* The same list, all the fields of its objects. */
+static void objects(const char *of, uint32_t n, uint32_t k)
+{
+    rows(n, k);
+    measure(of, n);
+    after(CALL(export_objects, MACHINE_SEEN(r), LENT, out, ROOM, r.root, 7 * k, 0).reason);
+}
+
+static void export_measures(uint32_t n)
+{
+    rows(n, 1);
+    measure("export", n);
+    after(CALL(export, MACHINE_SEEN(r), LENT, out, ROOM, r.root, 0).reason);
+    objects("export-objects-1", n, 1);
+    objects("export-objects-2", n, 2);
+    objects("export-objects-100", n / 10, 100);
+}
+
 /* ---- calls of linear cost ---- */
 
 static void linear_measures(void)
@@ -361,6 +395,8 @@ static void calls(uint32_t size)
     for (uint32_t whites = 1; whites <= 8; whites++)
         dear(whites);
     object_measures();
+    export_measures(50);
+    export_measures(100);
     linear_measures();
 }
 

@@ -274,7 +274,7 @@ struct plain_answer plain_allocate(struct plain_regs *r, PLAIN_LENT, uint32_t b,
 
 /* ---- Allocate chain ---- */
 
-enum { LINK = 7, MOST_CHAIN = 256 };
+enum { MOST_CHAIN = 256 };
 
 /* Of a free list that has so many blocks by its count: 8 where it ends before the nth, or a block up to it is not coloured free or
    has a link that is neither 0 nor a block, else 0, and *last is the nth. */

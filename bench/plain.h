@@ -51,5 +51,7 @@ struct plain_answer plain_allocate_chain(struct plain_regs *r, PLAIN_LENT, uint3
 struct plain_read_answer plain_read_field(const struct plain_regs *r, PLAIN_SEEN, uint32_t b, uint32_t k);
 struct plain_answer plain_store_field_number(struct plain_regs *r, PLAIN_LENT, uint32_t b, uint32_t k, uint32_t v);
 struct plain_answer plain_store_field_reference(struct plain_regs *r, PLAIN_LENT, uint32_t b, uint32_t k, uint32_t t);
+struct plain_export_answer plain_export_objects(const struct plain_regs *r, PLAIN_SEEN, uint32_t *out, size_t out_length,
+                                                uint32_t start, uint32_t fields, uint32_t link);
 
 #endif

@@ -2,31 +2,24 @@
    7; word 7 is the reference to the next block. See plain.h. */
 #include "plain_words.h"
 
-enum { LINK = 7, FIELDS = 7, MOST_FIELD = 1791 };
-
 /* 3 for a block that there is not, or a field that no object has, else 0. */
 static uint32_t field_refusal(uint32_t m, uint32_t b, uint32_t k)
 {
-    return is_block(m, b) && k <= MOST_FIELD ? 0 : 3;
+    return is_block(m, b) && k < MOST_FIELDS ? 0 : 3;
 }
 
 /* Walks from the block *b on to the one that has field k. Answers the refusal met, or 0. */
 static uint32_t walk(const struct plain_regs *r, const uint32_t *words, const uint32_t *colours, const uint8_t *bytes, uint32_t *b,
                      uint32_t k)
 {
-    uint32_t at = *b;
     for (uint32_t left = k / FIELDS; left != 0; left--) {
-        uint32_t e = standing(r, colours, at, 5), next = words[8 * (size_t)(at - 2) + LINK];
+        uint32_t e = standing(r, colours, *b, 5);
+        if (e == 0)
+            e = follow(r, words, bytes, b);
         if (e)
             return e;
-        if (!(bytes[at - 2] >> LINK) || next == 0)
-            return 3;
-        if (!is_block(r->blocks, next))
-            return 8;
-        at = next;
     }
-    *b = at;
-    return standing(r, colours, at, 5);
+    return standing(r, colours, *b, 5);
 }
 
 struct plain_read_answer plain_read_field(const struct plain_regs *r, PLAIN_SEEN, uint32_t b, uint32_t k)

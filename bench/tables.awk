@@ -57,6 +57,12 @@ function field_row(machine, text, measure) {
     printf "| %s | %s | %s | %s | %s | %s |\n", text, shown(value(machine, measure "-6", 1024)), shown(value(machine, measure "-7", 1024)), shown(value(machine, measure "-70", 1024)), shown(value(machine, measure "-1791", 1024)), shown((value(machine, measure "-1791", 1024) - value(machine, measure "-6", 1024)) / 255)
 }
 
+# What a row adds to an export: of one block by Export and by Export objects, of two blocks, and what each block adds to a longer row.
+function export_row(machine, text,    long) {
+    long = (value(machine, "export-objects-100", 1024) - value(machine, "export-objects-2", 1024)) / 98
+    printf "| %s | %s | %s | %s | %s |\n", text, shown(value(machine, "export", 1024)), shown(value(machine, "export-objects-1", 1024)), shown(value(machine, "export-objects-2", 1024)), shown(long)
+}
+
 # In microseconds, at 3 GHz.
 function time(n) { return sprintf("%.2f to %.2f", n / 9000, n / 6000) }
 
@@ -115,6 +121,12 @@ END {
     field_row("plain", "Store field number, plain C", "store-field-number")
     field_row("proved", "Store field reference, proved", "store-field-reference")
     field_row("plain", "Store field reference, plain C", "store-field-reference")
+
+    print "\n### Exports, M = 1,024\n"
+    print "| Instructions | Export, each row | Export of objects, each row of 7 fields | Each row of 14 fields | Each block more |"
+    print "|---|---:|---:|---:|---:|"
+    export_row("proved", "Proved")
+    export_row("plain", "Plain C")
 
     print "\n### With the size of the heap, proved\n"
     print "| Instructions | M = 1,024 | M = 4,096 | M = 16,384 |"

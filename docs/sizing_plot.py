@@ -149,11 +149,23 @@ def object_table():
                   + " | ".join(f"{M:,}" if M else "none" for M in cells) + " |")
 
 
+def night_table():
+    """The night of the program roster: K = 14,003 blocks, two to a row."""
+    print("| U | smallest M | N | bytes lent | units for a row |")
+    print("|" + "---:|" * 5)
+    for U in [27, 28, 30, 40, 50, 100]:
+        M = smallest(14003, U, 2)
+        cells = f"{M:,} | {N(M, U):,} | {37 * M:,} | {2 * U}" if M else "none | | |"
+        print(f"| {U} | {cells} |")
+
+
 def main():
     if sys.argv[1:] == ["table"]:
         tables()
         print()
         object_table()
+        print()
+        night_table()
         return
     here = os.path.dirname(os.path.abspath(__file__))
     with open(os.path.join(here, "sizing.svg"), "w", encoding="ascii", newline="\n") as file:

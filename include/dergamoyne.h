@@ -71,7 +71,7 @@
    written through its pointer.
 
    A call can't test the following, so you have to ensure it: no pointer is null (not even with length 0), each is aligned for
-   its type, the memory behind it is as long as you say, and no two of the record, the three buffers and Export's buffer overlap.
+   its type, the memory behind it is as long as you say, and no two of the record, the three buffers and an export's buffer overlap.
    Otherwise the behaviour is undefined.
 
 
@@ -110,8 +110,8 @@
    that Format made and only calls have changed, it is proved that nothing that can be reached is lost and that no call answers 8.
 
    This header, the way in which C passes arguments and results, and the compilers are not proved. They are tested. tests/c makes
-   more than 70,000 calls through this header, also on damaged heaps and with wrong lengths. It compares every answer with a
-   second model's, and the whole heap after 34,000 of them. tests/fuzz compares millions of calls with the same machine in
+   more than 190,000 calls through this header, also on damaged heaps and with wrong lengths. It compares what they answer with a
+   second model's answers, and the whole heap after 43,000 of them. tests/fuzz compares millions of calls with the same machine in
    plain C. */
 #ifndef DERGAMOYNE_H
 #define DERGAMOYNE_H
@@ -120,8 +120,8 @@
 #include <stdint.h>
 
 /* The version: 1,000,000 for each major, 1,000 for each minor, 1 for each patch. */
-#define DERGAMOYNE_VERSION 2000u
-#define DERGAMOYNE_VERSION_TEXT "0.2.0"
+#define DERGAMOYNE_VERSION 3000u
+#define DERGAMOYNE_VERSION_TEXT "0.3.0"
 
 /* Marks a function whose answer must not be ignored: the compiler warns if it is. */
 #ifndef DERGAMOYNE_MUST_USE
@@ -214,12 +214,13 @@ enum dergamoyne_reason {
     DERGAMOYNE_CIRCLE = 1,      /* the list goes on after M rows, so it runs in a circle. In a record that was never formatted
                                    M is 0, and this is the reason before the first row */
     DERGAMOYNE_NO_ROOM = 2,     /* the next row doesn't fit the buffer */
-    DERGAMOYNE_REFUSED = 3,     /* Read refuses the link word of the next block; refusal has the number */
-    DERGAMOYNE_NO_REFERENCE = 4 /* the link word of the next block holds a number */
+    DERGAMOYNE_REFUSED = 3,     /* Read refuses the link word of the next block, or Read field a field of the next row; refusal has
+                                   the number */
+    DERGAMOYNE_NO_REFERENCE = 4 /* the link word of the next block, or the link field of the next row, holds a number */
 };
 
-/* What Export answers: complete, 1 or 0; the number of rows written, in either case; the reason; and with reason 3 Read's
-   refusal, else 0. */
+/* What Export and Export objects answer: complete, 1 or 0; the number of rows written, in either case; the reason; and with
+   reason 3 the refusal of Read or Read field, else 0. */
 struct dergamoyne_export_answer {
     uint32_t complete, rows, reason, refusal;
 };
@@ -335,6 +336,20 @@ DERGAMOYNE_MUST_USE struct dergamoyne_export_answer dergamoyne_export(
     struct dergamoyne_regs regs, const uint32_t *words, size_t words_length, const uint32_t *colours,
     size_t colours_length, const uint8_t *bytes, size_t bytes_length, uint32_t *out, size_t out_length, uint32_t start,
     uint32_t link);
+
+/* Export objects: the same for a list whose rows are objects. A row is `fields` words, 1 to 1,792: the fields 0 to fields - 1 of its
+   object, in order, without the words 7 that chain its blocks. The list starts at the object start and goes on by the reference in
+   field link, which is below fields. An object may have more fields than are written; one that has fewer is refused by 3. If fields
+   or link is out of range, the answer is not complete, with no row, reason 3 and refusal 3, even if start is 0. In every other case
+   it is as Export's: complete, with the number of rows; or not, with the rows that were written before it stopped, and the reason.
+   Before each row come these tests, in this order: M rows are written already; the row doesn't fit the buffer; the first refusal
+   that reading its fields in order gives; its link field holds a number. A row that can't be read to its end leaves nothing in out.
+   out_length counts words and may be anything; n rows need n times fields, and M rows are always enough. The cost grows with the
+   number of blocks that the rows have. */
+DERGAMOYNE_MUST_USE struct dergamoyne_export_answer dergamoyne_export_objects(
+    struct dergamoyne_regs regs, const uint32_t *words, size_t words_length, const uint32_t *colours,
+    size_t colours_length, const uint8_t *bytes, size_t bytes_length, uint32_t *out, size_t out_length, uint32_t start,
+    uint32_t fields, uint32_t link);
 
 
 /* CALLS THAT YOU USE ONCE, OR SELDOM. Their cost grows with M. */

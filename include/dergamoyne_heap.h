@@ -95,9 +95,9 @@ static inline const char *dergamoyne_reason_text(uint32_t reason)
     case DERGAMOYNE_NO_ROOM:
         return "the next row does not fit the buffer";
     case DERGAMOYNE_REFUSED:
-        return "the next block can't be read";
+        return "the next row can't be read";
     case DERGAMOYNE_NO_REFERENCE:
-        return "the link of the next block is a number";
+        return "the link of the next row is a number";
     default:
         return "a reason that this version does not know";
     }
@@ -468,6 +468,18 @@ DERGAMOYNE_REFUSABLE dergamoyne_heap_new_row_object(struct dergamoyne_heap *h, u
     return refusal;
 }
 
+/* What an export answered: *rows is the number of its rows if it is complete and else stays alone; *details is the whole answer,
+   unless `details` is NULL. */
+DERGAMOYNE_MUST_USE static inline enum dergamoyne_reason
+dergamoyne_heap_exported_(struct dergamoyne_export_answer a, uint32_t *rows, struct dergamoyne_export_answer *details)
+{
+    if (details != NULL)
+        *details = a;
+    if (a.reason == DERGAMOYNE_COMPLETE)
+        *rows = a.rows;
+    return (enum dergamoyne_reason)a.reason;
+}
+
 /* Writes the list that starts at the block `start` to `out`, which has room for `room` rows. Start 0 is the empty list. Returns
    DERGAMOYNE_COMPLETE if the list is complete; then *rows is the number of its rows. Otherwise it returns the reason and leaves
    *rows alone. Unless `details` is NULL, *details then has the number of rows that were written before it stopped and, with
@@ -480,11 +492,22 @@ dergamoyne_heap_export(const struct dergamoyne_heap *h, uint32_t start, uint32_t
     uint32_t *words = room == 0 ? &none : &out[0][0];
     struct dergamoyne_export_answer a =
         dergamoyne_export(h->regs, DERGAMOYNE_LENT, words, DERGAMOYNE_BLOCK_WORDS * room, start, link);
-    if (details != NULL)
-        *details = a;
-    if (a.reason == DERGAMOYNE_COMPLETE)
-        *rows = a.rows;
-    return (enum dergamoyne_reason)a.reason;
+    return dergamoyne_heap_exported_(a, rows, details);
+}
+
+/* The same for a list whose rows are objects: the fields 0 to `fields` - 1 of each, 1 to 1,792 of them, linked by field `link`, which
+   is one of these. `out` has room for `room` rows, so for room * fields words; row n, counted from 0, begins at out[n * fields]. With
+   numbers out of range it returns DERGAMOYNE_REFUSED, and the refusal in *details is 3. */
+DERGAMOYNE_MUST_USE static inline enum dergamoyne_reason
+dergamoyne_heap_export_objects(const struct dergamoyne_heap *h, uint32_t start, uint32_t fields, uint32_t link, uint32_t *out,
+                               size_t room, uint32_t *rows, struct dergamoyne_export_answer *details)
+{
+    uint32_t none = 0;
+    uint32_t *words = room == 0 ? &none : out;
+    size_t most = room <= DERGAMOYNE_MOST_BLOCKS ? room : (size_t)DERGAMOYNE_MOST_BLOCKS; /* so that the product fits */
+    struct dergamoyne_export_answer a =
+        dergamoyne_export_objects(h->regs, DERGAMOYNE_LENT, words, most * fields, start, fields, link);
+    return dergamoyne_heap_exported_(a, rows, details);
 }
 
 

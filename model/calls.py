@@ -1,7 +1,7 @@
 """Cases of the exported calls with what comes of them, for tests/c/cases.c.
 
 python3 model/calls.py prints those stored in tests/c/cases.txt;
-python3 model/calls.py SEED COUNT prints COUNT * 40 drawn from SEED.
+python3 model/calls.py SEED COUNT prints COUNT * 50 drawn from SEED.
 
 A case is two lines, before the call and after it:
 
@@ -22,6 +22,7 @@ import chains
 import damage
 import draw
 import draw_chains
+import export_cases
 import exports
 import machine
 import probe
@@ -57,6 +58,7 @@ CALLS = {
     "read_field": plain(chains.read_field),
     "store_field_number": plain(chains.store_field_number),
     "store_field_reference": plain(chains.store_field_reference),
+    "export_objects": exports.export_objects,
 }
 
 # The letters by which heapprobe's cases name the calls of document 01.
@@ -140,6 +142,13 @@ def drawn_chains(rng, count):
         yield case(*draw_chains.case(rng))
 
 
+def drawn_exports(rng, count):
+    """Ten exports of objects, so many times."""
+    for _ in range(10 * count):
+        numbers, h, out = draw_chains.export_case(rng)
+        yield case("export_objects", numbers, h, out)
+
+
 def stored():
     """Those worked out by hand, and a few drawn."""
     for _, letter, numbers, h, _ in damage.cases():
@@ -150,13 +159,17 @@ def stored():
     for _, name, numbers, h, _ in chain_cases.cases():
         yield case(name, numbers, h)
     yield from drawn_chains(random.Random(104), 12)
+    for _, h, room, start, fields, link, _, _, _ in export_cases.cases():
+        yield case("export_objects", [start, fields, link], h, [7777] * room)
+    yield from drawn_exports(random.Random(105), 20)
 
 
 def main(arguments):
     if arguments:
         seed, count = arguments
         found = itertools.chain(drawn(random.Random(f"calls {seed}"), int(count)),
-                                drawn_chains(random.Random(f"chains {seed}"), int(count)))
+                                drawn_chains(random.Random(f"chains {seed}"), int(count)),
+                                drawn_exports(random.Random(f"exports {seed}"), int(count)))
     else:
         found = stored()
     sys.stdout.writelines(found)

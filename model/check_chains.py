@@ -11,6 +11,8 @@ import chains
 import check
 import draw
 import draw_chains
+import export_cases
+import exports
 import facts
 import lines
 import machine
@@ -88,6 +90,27 @@ def cases_by_hand():
     return f"{count} cases"
 
 
+def exports_by_hand():
+    """Each clause; of the buffer exactly the rows counted are written, and nothing
+    of a row that stopped midway. The heap stays as it was."""
+    count = 0
+    for clause, h, room, start, fields, link, rows, reason, refusal in export_cases.cases():
+        what = f"{clause}: start {start}, fields {fields}, link {link}, room {room}"
+        before, out = machine.copy(h), [7777] * room
+        wanted = (int(reason == exports.COMPLETE), len(rows), reason, refusal)
+        equal(exports.export_objects(h, out, start, fields, link), wanted, what)
+        written = [word for row in rows for word in row_of(before, row)[:fields]]
+        equal(out, written + [7777] * (room - len(written)), what)
+        need(h == before, f"{what}: the heap is changed", before, h)
+        count += 1
+    return f"{count} cases"
+
+
+def row_of(h, blocks):
+    """The fields in these blocks."""
+    return [word for b in blocks for word in h.words[8 * (b - 2):8 * (b - 2) + 7]]
+
+
 def leaves_its_units(before, h, answer, what):
     watched = machine.copy(before)
     for _ in range(answer[2]):
@@ -97,10 +120,10 @@ def leaves_its_units(before, h, answer, what):
 
 # ------------------------------------------------- watched calls, demand 2
 
-def object_of(h, first):
-    """The blocks of an object, by facts alone."""
+def object_of(h, first, most=256):
+    """The first blocks of an object, by facts alone."""
     found = [first]
-    while h.bytes[found[-1] - 2] & 128 and facts.words_of(h, found[-1])[7] and len(found) < 256:
+    while len(found) < most and h.bytes[found[-1] - 2] & 128 and facts.words_of(h, found[-1])[7]:
         found.append(facts.words_of(h, found[-1])[7])
     return found
 
@@ -342,8 +365,37 @@ def damaged_heaps():
     return f"{sum(met.values())} cases, {len(met)} kinds of answer, {alike} as for a block"
 
 
-TESTS = [rows_of_20_fields, marking_and_pace_0, cases_by_hand, sessions, long_objects, two_forms,
-         room_enough, no_better_rule, damaged_heaps]
+def drawn_exports():
+    """Any heap: an export ends, leaves the heap, and writes exactly the rows that it
+    counts; these are the objects that a walk by facts alone finds, to the list's end where
+    it is complete; each reason and each refusal is met."""
+    rng = random.Random(25)
+    met, whole = {}, 0
+    for _ in range(6000):
+        (start, fields, link), h, out = draw_chains.export_case(rng)
+        before, wanted = machine.copy(h), list(out)
+        complete, rows, reason, refusal = exports.export_objects(h, out, start, fields, link)
+        need(h == before, "an export changes the heap", before, h)
+        need(complete == (reason == exports.COMPLETE), f"complete {complete}, reason {reason}", h)
+        need((refusal != 0) == (reason == exports.REFUSED), f"reason {reason}, refusal {refusal}", h)
+        need(rows <= h.M and fields * rows <= len(out), f"{rows} rows", h)
+        equal(out[fields * rows:], wanted[fields * rows:], "what is behind the rows")
+        at = start
+        for n in range(rows):
+            row = row_of(h, object_of(h, at, (fields + 6) // 7))[:fields]
+            equal(out[fields * n:fields * n + fields], row, f"row {n} of {h}")
+            at = row[link]
+        need(not complete or at == 0, "complete and the list goes on", h)
+        whole += complete and rows > 1
+        met[reason, refusal] = met.get((reason, refusal), 0) + 1
+    missing = {*draw_chains.EXPORT_ANSWERS} - {*met}
+    need(not missing, f"never answered: {missing}")
+    need(whole > 500, f"only {whole} lists of more than one row")
+    return f"{sum(met.values())} cases, {len(met)} kinds of answer, {whole} lists of several rows"
+
+
+TESTS = [rows_of_20_fields, marking_and_pace_0, cases_by_hand, exports_by_hand, sessions,
+         long_objects, two_forms, room_enough, no_better_rule, damaged_heaps, drawn_exports]
 
 if __name__ == "__main__":
     sys.exit(check.main(TESTS))

@@ -15,6 +15,9 @@ ANSWERS = {"allocate_chain": [0, 1, 2, 3, 5, 7, 8], "read_field": [0, 1, 2, 3, 5
            "store_field_number": [0, 1, 2, 3, 5, 8],
            "store_field_reference": [0, 1, 2, 3, 4, 5, 6, 8]}
 
+# Each (reason, refusal) that the export of objects can answer on any heap.
+EXPORT_ANSWERS = [(0, 0), (1, 0), (2, 0), *((3, no) for no in (1, 2, 3, 5, 8)), (4, 0)]
+
 
 def sizes(rng):
     """M and U of a session."""
@@ -103,3 +106,56 @@ def case(rng):
     if name == "allocate_chain" and h.U > 64:
         h.U = one_of(rng, [64, 65536])
     return name, numbers, h
+
+
+# -------------------------------------------------------------------- exports
+
+def rows_on(rng, n):
+    """A heap reached by calls, with a list of objects of n blocks each on it, as many
+    as there is room for; the objects, and the field by which they are linked. Its
+    last link is null as a rule, else any block, or a number."""
+    h = reached(rng)
+    link = below(rng, 7 * n)
+    objects = []
+    for _ in range(between(rng, 1, 5)):
+        found = [b for b in range(2, h.M + 2) if machine.read(h, b, 0)[0] == 0]
+        holder = (one_of(rng, found), below(rng, 7)) if found and h.root else (0, 0)
+        no, first, _ = chains.allocate_chain(h, *holder, n)
+        if no == 0:
+            objects.append(first)
+    for first, following in zip(objects, [*objects[1:], 0]):
+        for k in range(7 * n):
+            if chance(rng, 0.4):
+                chains.store_field_number(h, first, k, draw.small_number(rng, h.M))
+        chains.store_field_reference(h, first, link, following)
+    if objects and chance(rng, 0.1):
+        chains.store_field_reference(h, objects[-1], link, one_of(rng, objects))
+    elif objects and chance(rng, 0.1):
+        chains.store_field_number(h, objects[-1], link, 0)
+    return h, objects, link
+
+
+def row_buffer(rng, rows, fields):
+    """A buffer for so many rows: as a rule long enough, often just."""
+    rows = rows + 1 if chance(rng, 0.4) else rows if chance(rng, 0.6) else below(rng, rows + 1)
+    length = max(0, min(fields, 99) * rows + one_of(rng, [0, 0, 0, -1, 1, 5]))
+    return [below(rng, 1000) for _ in range(length)]
+
+
+def export_case(rng):
+    """(numbers, heap, buffer): an export of objects from the list's start or
+    elsewhere, with nothing damaged or one or two things."""
+    n = one_of(rng, [1, 1, 2, 2, 2, 3])
+    h, objects, link = rows_on(rng, n)
+    start = objects[0] if objects else 0
+    fields = 7 * n if chance(rng, 0.6) else between(rng, link + 1, 7 * n)
+    rows = h.M if chance(rng, 0.3) else len(objects)
+    for _ in range(one_of(rng, [0, 0, 0, 1, 1, 2])):
+        damage(rng, h)
+    if chance(rng, 0.15):
+        start = draw.small_number(rng, h.M)
+    if chance(rng, 0.05):
+        fields = one_of(rng, [0, 1, 7 * n + 1, 1792, 1793, TOP])
+    if chance(rng, 0.05):
+        link = one_of(rng, [0, fields, fields + 1 if fields < TOP else TOP, TOP])
+    return [start, fields, link], h, row_buffer(rng, min(rows, 8), fields)

@@ -1,39 +1,73 @@
-"""The export of a list to a lent buffer, and cases of it worked out by hand.
+"""The exports of a list to a lent buffer, and cases of the one whose rows are
+blocks, worked out by hand. Those of objects are in export_cases.py.
 
-From what include/dergamoyne.h says of Export: the list starts at a block and
-goes on by the reference in one word of each block; 0 ends it. Before each row
-is written come four tests, in this order: there are M rows already; the row
-doesn't fit the buffer; Read refuses the link word; the link word is a number.
+From what include/dergamoyne.h says of Export and Export objects: the list starts
+at a block or object and goes on by the reference in one word or field of each; 0
+ends it. Before each row is written come four tests, in this order: there are M
+rows already; the row doesn't fit the buffer; Read refuses the link word, or Read
+field one of the row's fields; the link is a number.
 """
 
+import chains
 import machine
 
 COMPLETE, CIRCLE, NO_ROOM, REFUSED, NO_REFERENCE = range(5)
 
 
 def export(h, out, start, link):
-    """Writes rows to the list `out`. Answers (complete, rows, reason, refusal)."""
+    """Writes rows of eight words to the list `out`. Answers (complete, rows,
+    reason, refusal)."""
+    return written(h, out, start, 8, lambda block: block_row(h, block, link))
+
+
+def export_objects(h, out, start, fields, link):
+    """The same of objects, the fields 0 to fields - 1 a row. Numbers out of range
+    are told at once, as refused by 3 with no row: fields not 1 to 1,792, or a link
+    that isn't one of them."""
+    if not 1 <= fields <= chains.MOST_FIELD + 1 or link >= fields:
+        return 0, 0, REFUSED, 3
+    return written(h, out, start, fields, lambda first: object_row(h, first, fields, link))
+
+
+def written(h, out, start, width, row_of):
+    """Row by row, as many words each. row_of tells of a block why its row can't be
+    written, with a refusal; or COMPLETE, the row, and where its link leads."""
     rows, block = 0, start
     while block != machine.NO_BLOCK:
-        reason, refusal, following = step(h, out, block, link, rows)
+        if rows == h.M:
+            return 0, rows, CIRCLE, 0
+        if width * rows + width > len(out):
+            return 0, rows, NO_ROOM, 0
+        reason, refusal, row, following = row_of(block)
         if reason != COMPLETE:
             return 0, rows, reason, refusal
-        out[8 * rows:8 * rows + 8] = [machine.get_word(h, block, w) for w in range(8)]
+        out[width * rows:width * rows + width] = row
         rows, block = rows + 1, following
     return 1, rows, COMPLETE, 0
 
 
-def step(h, out, block, link, rows):
-    """Why the block's row can't be written, with Read's refusal; or COMPLETE
-    and where its link word leads."""
-    if rows == h.M:
-        return CIRCLE, 0, None
-    if 8 * rows + 8 > len(out):
-        return NO_ROOM, 0, None
+def block_row(h, block, link):
+    """A block's eight words; Read of its link word."""
     refusal, value, _, reference = machine.read(h, block, link)
     if refusal:
-        return REFUSED, refusal, None
-    return (COMPLETE, 0, value) if reference else (NO_REFERENCE, 0, None)
+        return REFUSED, refusal, None, None
+    if not reference:
+        return NO_REFERENCE, 0, None, None
+    return COMPLETE, 0, [machine.get_word(h, block, w) for w in range(8)], value
+
+
+def object_row(h, first, fields, link):
+    """An object's fields, read one by one in order."""
+    found = []
+    for k in range(fields):
+        refusal, value, _, reference = chains.read_field(h, first, k)
+        if refusal:
+            return REFUSED, refusal, None, None
+        found.append((value, reference))
+    following, reference = found[link]
+    if not reference:
+        return NO_REFERENCE, 0, None, None
+    return COMPLETE, 0, [value for value, _ in found], following
 
 
 # ------------------------------------------------------------- worked by hand

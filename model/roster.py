@@ -1,43 +1,44 @@
 """The program `roster` on the second model: python3 model/roster.py prints
 what it has to print.
 
-A list of rows is stored while garbage is made, and exported (exports.py).
+A list of rows is stored while garbage is made, and exported (exports.py). A row
+is an object of 14 fields in two blocks (chains.py): field 0 links it, the others
+hold numbers.
 """
 
+import chains
 import exports
+import facts
 import machine
 
-M, U = 16384, 10
-ROWS, GARBAGE, MARKED = 7000, 2, 6144
-ROOM = 8 * M
-TOP = 4294967295
-LINK, HELD = 0, 7
+M, U, B = 16384, 28, 2
+ROWS, FIELDS, GARBAGE, MARKED = 7000, 14, 2, 6144
+ROOM = FIELDS * M
+LINK, HELD = 0, 1
+IN_USE = 1 + B * ROWS + B       # the root's block, all rows, and the garbage of a moment
 
 
 REASONS = {exports.CIRCLE: "the list runs in a circle", exports.NO_ROOM: "no room for the next",
-           exports.REFUSED: "Read refuses the next by {}",
-           exports.NO_REFERENCE: "the next has no reference in its link word"}
+           exports.REFUSED: "a read of the next is refused by {}",
+           exports.NO_REFERENCE: "the link of the next is no reference"}
 
 
-def export(h, start, room):
-    """The rows of the list from start on, and why they are not all, or None."""
-    out = [0] * room
-    complete, rows, reason, refusal = exports.export(h, out, start, LINK)
-    found = [out[8 * n:8 * n + 8] for n in range(rows)]
-    return found, None if complete else REASONS[reason].format(refusal)
+def number(n, k):
+    """What field k of row n holds: k in the upper half, n in the lower."""
+    return 65536 * k + n
 
 
-def outcome(found):
-    rows, reason = found
-    if reason is None:
-        return f"complete, rows: {len(rows)}"
-    return f"NOT complete, rows: {len(rows)}; {reason}"
+def outcome(answer):
+    complete, rows, reason, refusal = answer
+    if complete:
+        return f"complete, rows: {rows}"
+    return f"NOT complete, rows: {rows}; {REASONS[reason].format(refusal)}"
 
 
-def unlike(found):
-    """How many of the rows are missing or are not what was stored."""
-    rows = found[0] + [None] * (ROWS - len(found[0]))
-    return sum(row is None or row[1:3] != [n, TOP - n] for n, row in enumerate(rows[:ROWS], 1))
+def unlike(out):
+    """How many of the rows in the buffer are not what was stored."""
+    wanted = [[number(n, k) for k in range(1, FIELDS)] for n in range(1, ROWS + 1)]
+    return sum(out[FIELDS * i + 1:FIELDS * i + FIELDS] != row for i, row in enumerate(wanted))
 
 
 class Night:
@@ -46,7 +47,8 @@ class Night:
     def __init__(self):
         self.heap = machine.empty_heap(M)
         self.refused = 0
-        self.blocks = []
+        self.rows = []
+        self.out = [0] * ROOM
 
     def call(self, made, *numbers):
         answer = made(self.heap, *numbers)
@@ -56,25 +58,33 @@ class Night:
     def store_rows(self):
         last = self.heap.root
         for n in range(1, ROWS + 1):
-            last = self.call(machine.allocate, last, LINK)
-            self.blocks.append(last)
-            self.call(machine.store_reference, last, LINK, 0)
-            self.call(machine.store_number, last, 1, n)
-            self.call(machine.store_number, last, 2, TOP - n)
+            last = self.call(chains.allocate_chain, last, LINK, B)
+            self.rows.append(last)
+            self.call(chains.store_field_reference, last, LINK, 0)
+            for k in range(1, FIELDS):
+                self.call(chains.store_field_number, last, k, number(n, k))
             for _ in range(GARBAGE):
-                self.call(machine.allocate, self.heap.root, HELD)
+                self.call(chains.allocate_chain, self.heap.root, HELD, B)
 
-    def export(self, room=ROOM):
-        return export(self.heap, self.blocks[0], room)
+    def export(self):
+        return outcome(exports.export_objects(self.heap, self.out, self.rows[0], FIELDS, LINK))
+
+    def export_short(self, rows):
+        room = [0] * (FIELDS * rows)
+        return outcome(exports.export_objects(self.heap, room, self.rows[0], FIELDS, LINK))
+
+    def export_first_blocks(self):
+        room = [0] * (8 * M)
+        return outcome(exports.export(self.heap, room, self.rows[0], LINK))
 
 
 def cycles_finished(h):
     return h.cycle - (h.phase != machine.IDLE)
 
 
-def has_room(k):
-    """Demand 3's premise: K + 2N is at most M, with N = (2M + 2)/U rounded up."""
-    return k + 2 * -(-(2 * M + 2) // U) <= M
+def has_room(pace):
+    """Demand 3's premise: K + 2N + B - 1 is at most M, with N = (2M + 2)/U rounded up."""
+    return chains.has_room(-(-(2 * M + 2) // pace), M, IN_USE, B)
 
 
 def yes_no(said):
@@ -87,38 +97,49 @@ def lines():
     night.call(machine.format, M, U)
     night.call(machine.allocate, 0, 0)
     night.store_rows()
-    in_use = 1 + ROWS + 1
-    yield f"{M} blocks at pace {U} are enough for {in_use} in use: {yes_no(has_room(in_use))}"
-    yield f"rows stored, each followed by two blocks of garbage: {ROWS}"
+    assert len(facts.reachable(h)) == IN_USE, "the blocks in use are counted wrong"
+    for pace in (U, U - 1):
+        yield f"{M} blocks at pace {pace} are enough for {IN_USE} in use: {yes_no(has_room(pace))}"
+    yield f"rows of {FIELDS} fields stored, each followed by two objects of garbage: {ROWS}"
     yield f"calls refused: {night.refused}"
     yield f"collector cycles finished meanwhile: {cycles_finished(h)}"
     yield f"heap well-formed: {yes_no(machine.audit(h)[1] == 1)}"
-    found = night.export()
-    yield f"export: {outcome(found)}"
-    yield f"rows that are not as they were stored: {unlike(found)}"
-    yield f"into a buffer of 5000 rows: {outcome(night.export(room=8 * 5000))}"
-
-    marked, following = night.blocks[MARKED - 1], night.blocks[MARKED]
-    night.call(machine.store_number, marked, LINK, following)
-    yield f"with row {MARKED}'s link stored as a number: {outcome(night.export())}"
-    night.call(machine.store_reference, marked, LINK, following)
-
-    colour = machine.colour(h, marked)
-    machine.put_colour(h, marked, machine.FREE - 1)
-    yield f"with row {MARKED}'s colour word outside the layout: {outcome(night.export())}"
-    machine.put_colour(h, marked, colour)
-
-    night.call(machine.store_reference, night.blocks[-1], LINK, night.blocks[0])
-    yield f"with the last row linked to the first: {outcome(night.export())}"
-    night.call(machine.store_reference, night.blocks[-1], LINK, 0)
-
-    found = night.export()
-    yield f"with all of that mended: {outcome(found)}"
-    yield f"rows that are not as they were stored: {unlike(found)}"
+    yield f"export: {night.export()}"
+    yield f"rows that are not as they were stored: {unlike(night.out)}"
+    yield f"into a buffer of 5000 rows: {night.export_short(5000)}"
+    yield f"of the rows' first blocks alone: {night.export_first_blocks()}"
+    yield from damaged(night)
+    yield f"with all of that mended: {night.export()}"
+    yield f"rows that are not as they were stored: {unlike(night.out)}"
     night.call(machine.store_reference, h.root, LINK, 0)
     night.call(machine.work, 65535)
-    yield f"once the root let go of it and the collector came by: {outcome(night.export())}"
+    yield f"once the root let go of it and the collector came by: {night.export()}"
     yield f"calls refused, in all: {night.refused}"
+
+
+def damaged(night):
+    """One way at a time, and mended each time."""
+    h = night.heap
+    marked, following = night.rows[MARKED - 1], night.rows[MARKED]
+    second = night.call(machine.read, marked, chains.LINK)
+
+    night.call(machine.store_number, marked, LINK, following)
+    yield f"with row {MARKED}'s link stored as a number: {night.export()}"
+    night.call(machine.store_reference, marked, LINK, following)
+
+    night.call(machine.store_number, marked, chains.LINK, second)
+    yield f"with the reference to row {MARKED}'s second block stored as a number: {night.export()}"
+    night.call(machine.store_reference, marked, chains.LINK, second)
+
+    for which, block in (("first", marked), ("second", second)):
+        colour = machine.colour(h, block)
+        machine.put_colour(h, block, machine.FREE - 1)
+        yield f"with the colour word of row {MARKED}'s {which} block outside the layout: {night.export()}"
+        machine.put_colour(h, block, colour)
+
+    night.call(machine.store_reference, night.rows[-1], LINK, night.rows[0])
+    yield f"with the last row linked to the first: {night.export()}"
+    night.call(machine.store_reference, night.rows[-1], LINK, 0)
 
 
 def output():

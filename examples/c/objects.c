@@ -1,6 +1,6 @@
 /* Objects longer than a block: a list of three rows with 20 fields each, on a heap of twelve blocks. Each row takes three blocks.
-   The rows are read back; three refusals are provoked on purpose; the middle row is let go, and its blocks serve a new object.
-   Where something is refused that should not be, the program says so and stops.
+   The rows are read back, field by field and then all at once by an export; three refusals are provoked on purpose; the middle row
+   is let go, and its blocks serve a new object. Where something is refused that should not be, the program says so and stops.
 
    examples/c/expected_objects has what it must print, worked out by hand from documents 01 and 02. The comments below have the
    steps: the pace is 1, so a new object of n blocks does n units of the collector's work. */
@@ -71,6 +71,22 @@ static enum dergamoyne_refusal show_rows(const struct dergamoyne_heap *h)
     return r;
 }
 
+/* The list at once, into a buffer for so many rows: 20 words a row, the first of which links it to the next. Only a complete export
+   gives a number of rows. */
+static void show_export(const struct dergamoyne_heap *h, size_t room)
+{
+    uint32_t out[ROWS * FIELDS], rows = 0;
+    enum dergamoyne_reason why = dergamoyne_heap_export_objects(h, dergamoyne_heap_root(h), FIELDS, NEXT, out, room, &rows, NULL);
+    if (why != DERGAMOYNE_COMPLETE) {
+        printf("export to %u rows: not complete: %s\n", (unsigned)room, dergamoyne_reason_text(why));
+        return;
+    }
+    printf("export to %u rows: complete, rows: %u;", (unsigned)room, (unsigned)rows);
+    for (uint32_t n = 0; n < rows; n++)
+        printf(" %u to %u", (unsigned)out[FIELDS * n + 1], (unsigned)out[FIELDS * n + FIELDS - 1]);
+    printf("\n");
+}
+
 static void show_refusal(enum dergamoyne_refusal r)
 {
     printf("%u: %s\n", (unsigned)r, dergamoyne_refusal_text(r));
@@ -103,6 +119,7 @@ static enum dergamoyne_refusal let_go(struct dergamoyne_heap *h, const uint32_t 
         r = show_blocks(h, object);
     if (r == DERGAMOYNE_DONE)
         r = show_rows(h);
+    show_export(h, ROWS);
     printf("free blocks: %u of %u\n", (unsigned)dergamoyne_heap_free_blocks(h), (unsigned)dergamoyne_heap_blocks(h));
     return r;
 }
@@ -117,6 +134,8 @@ static enum dergamoyne_refusal run(struct dergamoyne_heap *h)
         r = show_rows(h);
     if (r != DERGAMOYNE_DONE)
         return r;
+    show_export(h, ROWS);
+    show_export(h, ROWS - 1);
     refusals(h, rows[2]);
     r = let_go(h, rows);
     return r == DERGAMOYNE_DONE ? dergamoyne_heap_check(h) : r;

@@ -229,6 +229,14 @@ static uint32_t length(void)
     return one_in(8) ? regs()->count + below(2) : 1 + below(5);
 }
 
+/* How many fields a row has: few as a rule. */
+static uint32_t fields(void)
+{
+    if (one_in(32))
+        return one_in(2) ? 1790 + below(4) : odd();
+    return 1 + below(one_in(2) ? 7 : 28);
+}
+
 /* A field of an object: in its first blocks as a rule. */
 static uint32_t field(void)
 {
@@ -261,6 +269,8 @@ static uint32_t drawn(enum kind kind)
         return length();
     case FIELD:
         return field();
+    case FIELDS:
+        return fields();
     default:
         return 0;
     }
@@ -276,6 +286,8 @@ static void draw_call(void)
         numbers[i] = drawn(proved[call].numbers[i]);
     if (proved[call].numbers[0] == HOLDER && numbers[0] == 0 && !one_in(8))
         numbers[1] = 0;
+    if (proved[call].numbers[1] == FIELDS && numbers[1] != 0 && !one_in(16))
+        numbers[2] = one_in(2) ? 0 : numbers[2] % numbers[1];
 }
 
 /* ---- a call, and what it left ---- */

@@ -16,7 +16,7 @@ struct heap {
 };
 
 /* What a number of a call is. */
-enum kind { NONE, BLOCKS, PACE, BLOCK, WORD, NUMBER, TARGET, HOLDER, UNITS, START, LENGTH, FIELD };
+enum kind { NONE, BLOCKS, PACE, BLOCK, WORD, NUMBER, TARGET, HOLDER, UNITS, START, LENGTH, FIELD, FIELDS };
 
 /* The most numbers that a call takes, and the most that an answer has. */
 enum { MOST_NUMBERS = 4, MOST_ANSWER = 8 };

@@ -17,6 +17,8 @@ int main(void)
     dergamoyne_heap_store_field_number(&h, 2, 0, 1);
 #elif IGNORED == 6
     dergamoyne_allocate_chain(&h.regs, h.words, 0, h.colours, 0, h.bytes, 0, 0, 0, 1);
+#elif IGNORED == 7
+    dergamoyne_heap_export_objects(&h, 0, 1, 0, 0, 0, 0, 0);
 #endif
     return 0;
 }

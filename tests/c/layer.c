@@ -285,6 +285,61 @@ static void enough(void)
     dergamoyne_heap_close(&h);
 }
 
+/* ---- lists of objects ---- */
+
+enum { FIELDS = 14, LAST = 13, ROWS = 3 };
+
+/* Three rows of 14 fields, two blocks each, linked by the last field; field k of row n holds 100n + k. */
+static void add_object_rows(struct dergamoyne_heap *h)
+{
+    uint32_t row = 0;
+    for (uint32_t n = 0; n < ROWS; n++) {
+        enum dergamoyne_refusal r = n == 0 ? dergamoyne_heap_first_row_object(h, dergamoyne_object_blocks(FIELDS), LAST, &row)
+                                           : dergamoyne_heap_new_row_object(h, row, LAST, dergamoyne_object_blocks(FIELDS), LAST, &row);
+        expect(r == DERGAMOYNE_DONE && row == 2 + 2 * n, "a row of two blocks");
+        for (uint32_t k = 0; k < LAST; k++)
+            expect(dergamoyne_heap_store_field_number(h, row, k, 100 * n + k) == DERGAMOYNE_DONE, "a field of it");
+    }
+}
+
+/* Exports that list with these numbers, and sees what it answers and that nothing behind the rows is written. */
+static void export_rows(const struct dergamoyne_heap *h, uint32_t fields, uint32_t link, size_t room, uint32_t expected,
+                        enum dergamoyne_reason why, uint32_t refusal, const char *what)
+{
+    uint32_t out[FIELDS * (ROWS + 1)], rows = UNTOUCHED;
+    struct dergamoyne_export_answer details;
+    for (size_t i = 0; i < sizeof out / sizeof *out; i++)
+        out[i] = UNTOUCHED;
+    expect(dergamoyne_heap_export_objects(h, dergamoyne_heap_root(h), fields, link, out, room, &rows, &details) == why, what);
+    expect(details.rows == expected && details.refusal == refusal, what);
+    expect(rows == (why == DERGAMOYNE_COMPLETE ? expected : UNTOUCHED), what);
+    for (uint32_t n = 0; n < expected; n++)
+        for (uint32_t k = 0; k < LAST; k++)
+            expect(out[FIELDS * n + k] == 100 * n + k, what);
+    for (size_t i = FIELDS * expected; i < sizeof out / sizeof *out; i++)
+        expect(out[i] == UNTOUCHED, what);
+}
+
+static void object_rows(void)
+{
+    struct dergamoyne_heap h;
+    expect(dergamoyne_heap_open(&h, 8, 1) == DERGAMOYNE_DONE, "a heap for three rows");
+    export_rows(&h, FIELDS, LAST, ROWS, 0, DERGAMOYNE_COMPLETE, 0, "no row yet");
+    add_object_rows(&h);
+    export_rows(&h, FIELDS, LAST, ROWS + 1, ROWS, DERGAMOYNE_COMPLETE, 0, "three rows");
+    export_rows(&h, FIELDS, LAST, ROWS, ROWS, DERGAMOYNE_COMPLETE, 0, "just room for three rows");
+    export_rows(&h, FIELDS, LAST, ROWS - 1, ROWS - 1, DERGAMOYNE_NO_ROOM, 0, "no room for the third");
+    export_rows(&h, FIELDS, LAST, 0, 0, DERGAMOYNE_NO_ROOM, 0, "no room for a row");
+    export_rows(&h, FIELDS, FIELDS, ROWS, 0, DERGAMOYNE_REFUSED, DERGAMOYNE_NO_SUCH_WORD, "a link that is no field of the row");
+    export_rows(&h, 0, 0, ROWS, 0, DERGAMOYNE_REFUSED, DERGAMOYNE_NO_SUCH_WORD, "no fields");
+    export_rows(&h, 4294967295u, 0, ROWS, 0, DERGAMOYNE_REFUSED, DERGAMOYNE_NO_SUCH_WORD, "too many fields");
+    export_rows(&h, FIELDS + 1, LAST, ROWS, 0, DERGAMOYNE_REFUSED, DERGAMOYNE_NO_SUCH_WORD, "a field that the rows don't have");
+    export_rows(&h, FIELDS, 0, ROWS, 0, DERGAMOYNE_NO_REFERENCE, 0, "another link");
+    expect(dergamoyne_heap_store_null(&h, 4, DERGAMOYNE_BLOCK_FIELDS) == DERGAMOYNE_DONE, "the second row cut after its first block");
+    export_rows(&h, FIELDS, LAST, ROWS, 1, DERGAMOYNE_REFUSED, DERGAMOYNE_NO_SUCH_WORD, "a row that stops midway");
+    dergamoyne_heap_close(&h);
+}
+
 /* ---- texts and versions ---- */
 
 static void texts(void)
@@ -317,6 +372,7 @@ int main(void)
     longest();
     undersized();
     enough();
+    object_rows();
     texts();
     versions();
     return bad;

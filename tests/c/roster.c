@@ -1,15 +1,17 @@
-/* The program roster over the library: a list of 7,000 rows is stored on a heap of 16,384 blocks while two blocks of garbage
-   are made after each row, and exported; then it is damaged, a way at a time. It prints what each export answers. */
+/* The program roster over the library: a list of 7,000 rows of 14 fields, two blocks each, is stored on a heap of 16,384 blocks
+   while two objects of garbage are made after each row, and exported; then it is damaged, a way at a time. It prints what each
+   export answers. */
 #include "dergamoyne.h"
 #include <stdio.h>
 
-enum { M = 16384, U = 10, ROWS = 7000, MARKED = 6144, SHORT = 5000, LINK = 0, HELD = 7 };
-static const uint32_t TOP = 4294967295u, OUTSIDE = 4294967293u;
+enum { M = 16384, U = 28, B = 2, ROWS = 7000, FIELDS = 14, MARKED = 6144, SHORT = 5000, LINK = 0, HELD = 1, NEXT = 7 };
+enum { IN_USE = 1 + B * ROWS + B };
+static const uint32_t OUTSIDE = 4294967293u;
 
 static struct dergamoyne_regs regs;
-static uint32_t words[8 * M], colours[M], out[8 * M];
+static uint32_t words[8 * M], colours[M], out[FIELDS * M];
 static uint8_t bytes[M];
-static uint32_t blocks[ROWS + 1]; /* the block of each row, from row 1 */
+static uint32_t rows[ROWS + 1]; /* the object of each row, from row 1 */
 static unsigned refused;
 
 #define LENT words, 8 * M, colours, M, bytes, M
@@ -21,37 +23,38 @@ static uint32_t value_of(struct dergamoyne_answer a)
     return a.value;
 }
 
-static uint32_t allocate(uint32_t b, uint32_t w)
+/* An object of two blocks. */
+static uint32_t object(uint32_t b, uint32_t w)
 {
-    return value_of(dergamoyne_allocate(&regs, LENT, b, w));
+    return value_of(dergamoyne_allocate_chain(&regs, LENT, b, w, B));
 }
 
-static void put(uint32_t b, uint32_t w, uint32_t v)
+static void refer(uint32_t b, uint32_t w, uint32_t t)
 {
-    value_of(dergamoyne_store_number(&regs, LENT, b, w, v));
+    value_of(dergamoyne_store_reference(&regs, LENT, b, w, t));
 }
 
-static void link_to(uint32_t b, uint32_t t)
+/* What field k of row n holds. */
+static uint32_t number(uint32_t n, uint32_t k)
 {
-    value_of(dergamoyne_store_reference(&regs, LENT, b, LINK, t));
+    return 65536 * k + n;
 }
 
-/* Row n behind the block `last`, and the garbage after it. */
+/* Row n behind the row `last`, and the garbage after it. */
 static uint32_t row(uint32_t last, uint32_t n)
 {
-    uint32_t b = allocate(last, LINK);
-    link_to(b, 0);
-    put(b, 1, n);
-    put(b, 2, TOP - n);
-    allocate(regs.root, HELD);
-    allocate(regs.root, HELD);
+    uint32_t b = object(last, LINK);
+    value_of(dergamoyne_store_field_reference(&regs, LENT, b, LINK, 0));
+    for (uint32_t k = 1; k < FIELDS; k++)
+        value_of(dergamoyne_store_field_number(&regs, LENT, b, k, number(n, k)));
+    object(regs.root, HELD);
+    object(regs.root, HELD);
     return b;
 }
 
-/* The list in a buffer of so many words, and a line of what that answers. */
-static void export_to(const char *what, size_t room)
+/* A line of what an export answers. */
+static void say(const char *what, struct dergamoyne_export_answer a)
 {
-    struct dergamoyne_export_answer a = dergamoyne_export(regs, LENT, out, room, blocks[1], LINK);
     printf("%s: %s, rows: %u", what, a.complete ? "complete" : "NOT complete", (unsigned)a.rows);
     switch (a.reason) {
     case DERGAMOYNE_CIRCLE:
@@ -61,71 +64,99 @@ static void export_to(const char *what, size_t room)
         printf("; no room for the next");
         break;
     case DERGAMOYNE_REFUSED:
-        printf("; Read refuses the next by %u", (unsigned)a.refusal);
+        printf("; a read of the next is refused by %u", (unsigned)a.refusal);
         break;
     case DERGAMOYNE_NO_REFERENCE:
-        printf("; the next has no reference in its link word");
+        printf("; the link of the next is no reference");
         break;
     }
     printf("\n");
+}
+
+/* The list in a buffer of so many rows. */
+static void export_to(const char *what, size_t room)
+{
+    say(what, dergamoyne_export_objects(regs, LENT, out, FIELDS * room, rows[1], FIELDS, LINK));
 }
 
 /* How many rows of the last export are not as they were stored. */
 static unsigned unlike(void)
 {
     unsigned found = 0;
-    for (uint32_t n = 1; n <= ROWS; n++)
-        found += out[8 * n - 7] != n || out[8 * n - 6] != TOP - n;
+    for (uint32_t n = 1; n <= ROWS; n++) {
+        uint32_t k = 1;
+        while (k < FIELDS && out[FIELDS * (n - 1) + k] == number(n, k))
+            k++;
+        found += k < FIELDS;
+    }
     return found;
 }
 
-/* Demand 3's premise for k blocks in use: K + 2N is at most M, with N = (2M + 2)/U rounded up. */
-static int has_room(unsigned k)
+/* Demand 3's premise at a pace: K + 2N + B - 1 is at most M, with N = (2M + 2)/U rounded up. */
+static void say_room(int pace)
 {
-    return k + 2 * ((2 * M + 2 + U - 1) / U) <= M;
+    int has_room = IN_USE + 2 * ((2 * M + 2 + pace - 1) / pace) + B - 1 <= M;
+    printf("%d blocks at pace %d are enough for %d in use: %s\n", M, pace, IN_USE, has_room ? "yes" : "no");
 }
 
 static void store(void)
 {
     uint32_t last;
     value_of(dergamoyne_format(&regs, LENT, M, U));
-    last = allocate(0, 0);
+    last = value_of(dergamoyne_allocate(&regs, LENT, 0, 0));
     for (uint32_t n = 1; n <= ROWS; n++)
-        last = blocks[n] = row(last, n);
-    printf("%d blocks at pace %d are enough for %d in use: %s\n", M, U, ROWS + 2, has_room(ROWS + 2) ? "yes" : "no");
-    printf("rows stored, each followed by two blocks of garbage: %d\n", ROWS);
+        last = rows[n] = row(last, n);
+    say_room(U);
+    say_room(U - 1);
+    printf("rows of %d fields stored, each followed by two objects of garbage: %d\n", FIELDS, ROWS);
     printf("calls refused: %u\n", refused);
     printf("collector cycles finished meanwhile: %u\n", (unsigned)(regs.cycle - (regs.phase != 0)));
     printf("heap well-formed: %s\n", dergamoyne_audit(regs, LENT).value == 1 ? "yes" : "no");
 }
 
+/* A reference is stored as a number, and after the export as what it was. */
+static void damage_word(const char *what, uint32_t b, uint32_t w)
+{
+    uint32_t t = words[8 * (b - 2) + w];
+    value_of(dergamoyne_store_number(&regs, LENT, b, w, t));
+    export_to(what, M);
+    refer(b, w, t);
+}
+
+/* A colour word is put outside the layout, and after the export it is what it was. */
+static void damage_colour(const char *what, uint32_t b)
+{
+    uint32_t colour = colours[b - 2];
+    colours[b - 2] = OUTSIDE;
+    export_to(what, M);
+    colours[b - 2] = colour;
+}
+
 static void damage(void)
 {
-    uint32_t colour;
-    put(blocks[MARKED], LINK, blocks[MARKED + 1]);
-    export_to("with row 6144's link stored as a number", 8 * M);
-    link_to(blocks[MARKED], blocks[MARKED + 1]);
-    colour = colours[blocks[MARKED] - 2];
-    colours[blocks[MARKED] - 2] = OUTSIDE;
-    export_to("with row 6144's colour word outside the layout", 8 * M);
-    colours[blocks[MARKED] - 2] = colour;
-    link_to(blocks[ROWS], blocks[1]);
-    export_to("with the last row linked to the first", 8 * M);
-    link_to(blocks[ROWS], 0);
+    uint32_t second = words[8 * (rows[MARKED] - 2) + NEXT];
+    damage_word("with row 6144's link stored as a number", rows[MARKED], LINK);
+    damage_word("with the reference to row 6144's second block stored as a number", rows[MARKED], NEXT);
+    damage_colour("with the colour word of row 6144's first block outside the layout", rows[MARKED]);
+    damage_colour("with the colour word of row 6144's second block outside the layout", second);
+    refer(rows[ROWS], LINK, rows[1]);
+    export_to("with the last row linked to the first", M);
+    refer(rows[ROWS], LINK, 0);
 }
 
 int main(void)
 {
     store();
-    export_to("export", 8 * M);
+    export_to("export", M);
     printf("rows that are not as they were stored: %u\n", unlike());
-    export_to("into a buffer of 5000 rows", 8 * SHORT);
+    export_to("into a buffer of 5000 rows", SHORT);
+    say("of the rows' first blocks alone", dergamoyne_export(regs, LENT, out, FIELDS * M, rows[1], LINK));
     damage();
-    export_to("with all of that mended", 8 * M);
+    export_to("with all of that mended", M);
     printf("rows that are not as they were stored: %u\n", unlike());
-    link_to(regs.root, 0);
+    refer(regs.root, LINK, 0);
     value_of(dergamoyne_work(&regs, LENT, 65535));
-    export_to("once the root let go of it and the collector came by", 8 * M);
+    export_to("once the root let go of it and the collector came by", M);
     printf("calls refused, in all: %u\n", refused);
     return fflush(stdout) != 0;
 }

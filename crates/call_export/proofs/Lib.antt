@@ -1,6 +1,5 @@
 -- What is proved of the export's definition, and the functions' proofs.
 pub mod Rows
 pub mod Steps
-pub mod Walks
 pub mod Meaning
 pub mod Contracts

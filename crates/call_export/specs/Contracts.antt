@@ -5,10 +5,9 @@ use Prim.Native.Nat.{ℕ}
 use mathlib.Core.Path.{_≡_}
 use mathlib.Core.List.{List}
 use Rattle.machine.specs.Heap.{Heap}
-use Rattle.call_export.specs.declared.Exported.{Exported}
-use Rattle.call_export.specs.declared.ExportAnswer.{ExportAnswer}
-use Rattle.call_export.specs.Export.{export}
-use Rattle.call_export.specs.Numbers.{exportNumbers}
+use Rattle.part_rows.specs.declared.Exported.{Exported}
+use Rattle.part_rows.specs.declared.ExportAnswer.{ExportAnswer}
+use Rattle.call_export.specs.Export.{export, exportNumbers}
 
 pub record NoSecondOutcome : Type 0 where
   pub ofExport :

@@ -1,6 +1,3 @@
--- The export of a list: what it gives, its answer in numbers, what that means, and that it is settled.
+-- The export of a list whose rows are blocks: what it gives, and that it is settled.
 pub mod Export
-pub mod Numbers
-pub mod Lists
-pub mod Meaning
 pub mod Contracts

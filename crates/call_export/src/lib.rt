@@ -1,45 +1,18 @@
 // Export: the rows of a list on the heap, written to a lent buffer. It is complete, or it says that it is not, and why.
 // A row is a block's eight words; the list goes on by the reference in the link word, and 0 ends it.
 use machine::Regs;
+use part_rows::ExportAnswer;
+use part_rows::Exported;
+use part_rows::Followed;
+use part_rows::Reason;
 ghost use mathlib.Core.Path.{_≡_};
 ghost use Prim.Native.Nat.{_+_, _*_, _≤_};
 ghost use lib.ListN.{length};
 ghost use Rattle.machine.specs.Block.{base, eightWords};
 ghost use Rattle.machine.specs.Heap.{heap};
 ghost use Rattle.machine.specs.Entry.{entry};
-ghost use Rattle.call_export.specs.Export.{withRow, follow, export};
-ghost use Rattle.call_export.specs.Numbers.{stoppedNumbers, numbersOf, exportNumbers};
-
-// Why an export stopped: it has M rows and there is one more, so that the list runs in a circle; the next row doesn't fit
-// the buffer; Read refuses its link word, by this number; its link word is no reference.
-pub enum Reason {
-    Circle,
-    NoRoom,
-    Refused(u32),
-    NoReference,
-}
-
-// What an export answers: complete, with the number of rows; or stopped, with the rows written before, and the reason.
-pub enum Exported {
-    Complete(u32),
-    Stopped(u32, Reason),
-}
-
-// What a block's link word leads to: the next block or 0, or nowhere, for this reason.
-pub enum Followed {
-    To(u32),
-    Nowhere(Reason),
-}
-
-// An export's answer in numbers: complete is 1 or 0; reason is 0 where it is complete, else 1 for a circle, 2 for no room,
-// 3 where Read refused, 4 for a link word that is no reference; refusal is Read's number with 3, else 0.
-#[repr(C)]
-pub struct ExportAnswer {
-    pub complete: u32,
-    pub rows: u32,
-    pub reason: u32,
-    pub refusal: u32,
-}
+ghost use Rattle.part_rows.specs.Rows.{withRow};
+ghost use Rattle.call_export.specs.Export.{follow, export, exportNumbers};
 
 // What the link word w of the block b leads to; e is refusal 1, 2 or 0, the same for all blocks.
 fn follow(e: u32, r: Regs, words: &[u32], colours: &[u32], bytes: &[u8], b: u32, w: u32) -> Followed
@@ -76,7 +49,7 @@ fn copy(to: &mut [u32], from: &[u32])
 // The block b's eight words as row n of the buffer, counted from 0.
 fn write_row(words: &[u32], out: &mut [u32], b: u32, n: u32)
     requires { ⌜ (2 ≤ b) × (base b + 8 ≤ length (now words)) × (8 * n + 8 ≤ length (now out)) ⌝ }
-    ensures { λ _. ⌜ now (out .exit) ≡ withRow n (eightWords (now (words .entry)) b) (now (out .entry)) ⌝ }
+    ensures { λ _. ⌜ now (out .exit) ≡ withRow (8 * n) (eightWords (now (words .entry)) b) (now (out .entry)) ⌝ }
 {
     let at = 8 * n as usize;
     let from = 8 * (b as usize - 2);
@@ -123,38 +96,6 @@ pub fn export(
     Exported::Complete(n)
 }
 
-// An export's answer in numbers.
-pub fn numbers_of(x: Exported) -> ExportAnswer
-    ensures { λ a. ⌜ a ≡ numbersOf x ⌝ }
-{
-    match x {
-        Exported::Complete(n) => ExportAnswer {
-            complete: 1,
-            rows: n,
-            reason: 0,
-            refusal: 0,
-        },
-        Exported::Stopped(n, reason) => match reason {
-            Reason::Circle => stopped(n, 1, 0),
-            Reason::NoRoom => stopped(n, 2, 0),
-            Reason::Refused(refusal) => stopped(n, 3, refusal),
-            Reason::NoReference => stopped(n, 4, 0),
-        },
-    }
-}
-
-// Not complete, with these numbers.
-fn stopped(rows: u32, reason: u32, refusal: u32) -> ExportAnswer
-    ensures { λ a. ⌜ a ≡ stoppedNumbers rows reason refusal ⌝ }
-{
-    ExportAnswer {
-        complete: 0,
-        rows: rows,
-        reason: reason,
-        refusal: refusal,
-    }
-}
-
 // The export, with its answer in numbers.
 pub fn export_numbers(
     r: Regs,
@@ -171,5 +112,5 @@ pub fn export_numbers(
         ≡ exportNumbers start link (heap r (now (words .entry)) (now (colours .entry)) (now (bytes .entry))) (now (out .entry))
         ⌝ }
 {
-    numbers_of(export(r, words, colours, bytes, out, start, link))
+    part_rows::numbers_of(export(r, words, colours, bytes, out, start, link))
 }

@@ -1,9 +1,9 @@
 // The outer calls, for a host in C. Nine write to the heap: the host lends its one register record, and the call changes it in
-// place, over a core that takes the record by value and gives it back. Five only look, and take the record by value.
-use call_export::ExportAnswer;
+// place, over a core that takes the record by value and gives it back. Six only look, and take the record by value.
 use machine::Answer;
 use machine::ReadAnswer;
 use machine::Regs;
+use part_rows::ExportAnswer;
 ghost use mathlib.Core.Path.{_≡_};
 ghost use mathlib.Core.Logic.{_↔_};
 ghost use Rattle.machine.specs.WellFormed.{WellFormed};
@@ -17,7 +17,8 @@ ghost use Rattle.machine.specs.Chain.{allocateChain};
 ghost use Rattle.machine.specs.Field.{readField, storeFieldNumber, storeFieldReference};
 ghost use Rattle.machine.specs.Work.{work};
 ghost use Rattle.machine.specs.Audit.{audit};
-ghost use Rattle.call_export.specs.Numbers.{exportNumbers};
+ghost use Rattle.call_export.specs.Export.{exportNumbers};
+ghost use Rattle.call_export_objects.specs.Objects.{exportObjectsNumbers};
 ghost use Rattle.dergamoyne.specs.Host.{lookIndex, version, recordSize};
 
 // What Look answers a host: the refusal of Read of word 0, or 0, and the index of the block's first word in the word buffer. On a
@@ -33,7 +34,7 @@ pub struct LookAnswer {
 pub extern "C" fn dergamoyne_version() -> u32
     ensures { λ n. ⌜ n ≡ version ⌝ }
 {
-    2000
+    3000
 }
 
 // How many bytes a register record takes in memory.
@@ -284,4 +285,31 @@ pub extern "C" fn dergamoyne_export(
     ensures { λ a. ⌜ (record { answer = a; out = now (out .exit) }) ≡ exportNumbers start link (heap regs (now (words .entry)) (now (colours .entry)) (now (bytes .entry))) (now (out .entry)) ⌝ }
 {
     call_export::export_numbers(regs, words, colours, bytes, out, start, link)
+}
+
+// Export of objects: the rows of the list that starts at the object start, where 0 is the empty list, and goes on by the
+// reference in field link, to the buffer out. A row is an object's first fields. The answer is as that of Export.
+#[no_mangle]
+pub extern "C" fn dergamoyne_export_objects(
+    regs: Regs,
+    words: &[u32],
+    colours: &[u32],
+    bytes: &[u8],
+    out: &mut [u32],
+    start: u32,
+    fields: u32,
+    link: u32,
+) -> ExportAnswer
+    ensures { λ a. ⌜ (record { answer = a; out = now (out .exit) }) ≡ exportObjectsNumbers start fields link (heap regs (now (words .entry)) (now (colours .entry)) (now (bytes .entry))) (now (out .entry)) ⌝ }
+{
+    call_export_objects::export_objects_numbers(
+        regs,
+        words,
+        colours,
+        bytes,
+        out,
+        start,
+        fields,
+        link,
+    )
 }

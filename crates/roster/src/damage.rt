@@ -1,7 +1,7 @@
 // The list damaged a way at a time, exported so, and mended.
 use crate::night;
 use crate::night::Night;
-use call_export::Exported;
+use part_rows::Exported;
 use text_commands::Command;
 
 // What the export answered, and the night after it.
@@ -16,7 +16,7 @@ pub(crate) fn between(
     words: &mut [u32; 131072],
     colours: &mut [u32; 16384],
     bytes: &mut [u8; 16384],
-    out: &mut [u32; 131072],
+    out: &mut [u32; 229376],
     c: Command,
     d: Command,
 ) -> Tried {
@@ -32,10 +32,23 @@ pub(crate) fn unlinked(
     words: &mut [u32; 131072],
     colours: &mut [u32; 16384],
     bytes: &mut [u8; 16384],
-    out: &mut [u32; 131072],
+    out: &mut [u32; 229376],
 ) -> Tried {
     let c = Command::StoreNumber(t.marked, 0, t.following);
     let d = Command::StoreReference(t.marked, 0, t.following);
+    between(t, words, colours, bytes, out, c, d)
+}
+
+// The reference to row 6,144's second block is stored as a number, and after the export as the reference that it was.
+pub(crate) fn halved(
+    t: Night,
+    words: &mut [u32; 131072],
+    colours: &mut [u32; 16384],
+    bytes: &mut [u8; 16384],
+    out: &mut [u32; 229376],
+) -> Tried {
+    let c = Command::StoreNumber(t.marked, 7, t.second);
+    let d = Command::StoreReference(t.marked, 7, t.second);
     between(t, words, colours, bytes, out, c, d)
 }
 
@@ -45,7 +58,7 @@ pub(crate) fn circled(
     words: &mut [u32; 131072],
     colours: &mut [u32; 16384],
     bytes: &mut [u8; 16384],
-    out: &mut [u32; 131072],
+    out: &mut [u32; 229376],
 ) -> Tried {
     let c = Command::StoreReference(t.last, 0, t.first);
     let d = Command::StoreReference(t.last, 0, 0);
@@ -58,7 +71,7 @@ pub(crate) fn dropped(
     words: &mut [u32; 131072],
     colours: &mut [u32; 16384],
     bytes: &mut [u8; 16384],
-    out: &mut [u32; 131072],
+    out: &mut [u32; 229376],
 ) -> Tried {
     let r = t.regs;
     let c = Command::StoreReference(r.root, 0, 0);
@@ -88,16 +101,17 @@ fn recolour(colours: &mut [u32; 16384], b: u32, c: u32) -> u32 {
     c
 }
 
-// The colour word of row 6,144 is put outside the layout, and after the export it is what it was.
+// The colour word of the block b is put outside the layout, and after the export it is what it was.
 pub(crate) fn discoloured(
     t: Night,
     words: &[u32; 131072],
     colours: &mut [u32; 16384],
     bytes: &[u8; 16384],
-    out: &mut [u32; 131072],
+    out: &mut [u32; 229376],
+    b: u32,
 ) -> Tried {
-    let old = recolour(colours, t.marked, 4294967293);
+    let old = recolour(colours, b, 4294967293);
     let x = night::exported(t, words, colours, bytes, out);
-    recolour(colours, t.marked, old);
+    recolour(colours, b, old);
     Tried { night: t, found: x }
 }

@@ -1,13 +1,13 @@
-// A night's list: 7,000 rows are stored on a heap of 16,384 blocks while two blocks of garbage are made after each, and the
-// list is exported. Then it is damaged, a way at a time, and each export says that it is not complete, and why.
+// A night's list: 7,000 rows of 14 fields are stored on a heap of 16,384 blocks, two blocks each, while two objects of garbage are made
+// after each row, and the list is exported. Then it is damaged, a way at a time, and each export says that it is not complete, and why.
 mod damage;
 mod night;
 mod printing;
 
-use call_export::Exported;
 use damage::Tried;
 use machine::Regs;
 use night::Night;
+use part_rows::Exported;
 
 // A night of which something was said, and whether all of that could be written.
 struct Said {
@@ -43,16 +43,26 @@ fn finished(r: Regs) -> u32 {
     std::num::wrapping_sub_u32(r.cycle, 1)
 }
 
+// Whether 16,384 blocks at this pace are enough for the rows' 14,000 blocks, the root's, and the two of an object of garbage, where a
+// call asks for two blocks at the most: K + 2N + B - 1 ≤ M, with K = 14,003 and B = 2.
+fn enough(pace: u32) -> bool {
+    call_size::has_room(16384, pace, 14004)
+}
+
 // What was done.
 fn told(t: Night, words: &[u32; 131072], colours: &[u32; 16384], bytes: &[u8; 16384]) -> bool {
     let r = t.regs;
     let a = call_audit::audit(r, words, colours, bytes);
     printing::answer(
-        b"16384 blocks at pace 10 are enough for 7002 in use: ",
-        call_size::has_room(16384, 10, 7002),
+        b"16384 blocks at pace 28 are enough for 14003 in use: ",
+        enough(28),
     )
+        && printing::answer(
+            b"16384 blocks at pace 27 are enough for 14003 in use: ",
+            enough(27),
+        )
         && printing::number(
-            b"rows stored, each followed by two blocks of garbage: ",
+            b"rows of 14 fields stored, each followed by two objects of garbage: ",
             7000,
         )
         && printing::number(b"calls refused: ", t.refused)
@@ -62,23 +72,36 @@ fn told(t: Night, words: &[u32; 131072], colours: &[u32; 16384], bytes: &[u8; 16
 
 // The export into a buffer of 5,000 rows.
 fn shortened(t: Night, words: &[u32; 131072], colours: &[u32; 16384], bytes: &[u8; 16384]) -> bool {
-    let mut out = [0u32; 40000];
+    let mut out = [0u32; 70000];
     let x = night::exported(t, words, colours, bytes, &mut out);
     printing::outcome(b"into a buffer of 5000 rows: ", x)
 }
 
-// What was done, the export of the list, and one into a buffer that is too short.
+// The export of the rows' first blocks, eight words each.
+fn of_blocks(
+    t: Night,
+    words: &[u32; 131072],
+    colours: &[u32; 16384],
+    bytes: &[u8; 16384],
+    out: &mut [u32; 229376],
+) -> bool {
+    let x = call_export::export(t.regs, words, colours, bytes, out, t.first, 0);
+    printing::outcome(b"of the rows' first blocks alone: ", x)
+}
+
+// What was done, the export of the list, one into a buffer that is too short, and one of blocks.
 fn first(
     t: Night,
     words: &[u32; 131072],
     colours: &[u32; 16384],
     bytes: &[u8; 16384],
-    out: &mut [u32; 131072],
+    out: &mut [u32; 229376],
 ) -> Said {
     let x = night::exported(t, words, colours, bytes, out);
     let whole = told(t, words, colours, bytes)
         && shown(b"export: ", x, out)
-        && shortened(t, words, colours, bytes);
+        && shortened(t, words, colours, bytes)
+        && of_blocks(t, words, colours, bytes, out);
     Said {
         night: t,
         whole: whole,
@@ -91,7 +114,7 @@ fn mended(
     words: &[u32; 131072],
     colours: &[u32; 16384],
     bytes: &[u8; 16384],
-    out: &mut [u32; 131072],
+    out: &mut [u32; 229376],
 ) -> Said {
     let t = s.night;
     let x = night::exported(t, words, colours, bytes, out);
@@ -102,18 +125,57 @@ fn mended(
     }
 }
 
-// The list damaged in three ways, one after another, and mended each time.
+// A link, or the reference to a row's second block, stored as a number.
+fn numbered(
+    s: Said,
+    words: &mut [u32; 131072],
+    colours: &mut [u32; 16384],
+    bytes: &mut [u8; 16384],
+    out: &mut [u32; 229376],
+) -> Said {
+    let x = damage::unlinked(s.night, words, colours, bytes, out);
+    let a = further(s, x, b"with row 6144's link stored as a number: ");
+    let y = damage::halved(a.night, words, colours, bytes, out);
+    further(
+        a,
+        y,
+        b"with the reference to row 6144's second block stored as a number: ",
+    )
+}
+
+// The colour word of a row's first and then of its second block outside the layout.
+fn discoloured(
+    s: Said,
+    words: &[u32; 131072],
+    colours: &mut [u32; 16384],
+    bytes: &[u8; 16384],
+    out: &mut [u32; 229376],
+) -> Said {
+    let t = s.night;
+    let x = damage::discoloured(t, words, colours, bytes, out, t.marked);
+    let a = further(
+        s,
+        x,
+        b"with the colour word of row 6144's first block outside the layout: ",
+    );
+    let y = damage::discoloured(t, words, colours, bytes, out, t.second);
+    further(
+        a,
+        y,
+        b"with the colour word of row 6144's second block outside the layout: ",
+    )
+}
+
+// The list damaged in five ways, one after another, and mended each time.
 fn damaged(
     s: Said,
     words: &mut [u32; 131072],
     colours: &mut [u32; 16384],
     bytes: &mut [u8; 16384],
-    out: &mut [u32; 131072],
+    out: &mut [u32; 229376],
 ) -> Said {
-    let x = damage::unlinked(s.night, words, colours, bytes, out);
-    let a = further(s, x, b"with row 6144's link stored as a number: ");
-    let y = damage::discoloured(a.night, words, colours, bytes, out);
-    let b = further(a, y, b"with row 6144's colour word outside the layout: ");
+    let a = numbered(s, words, colours, bytes, out);
+    let b = discoloured(a, words, colours, bytes, out);
     let z = damage::circled(b.night, words, colours, bytes, out);
     further(b, z, b"with the last row linked to the first: ")
 }
@@ -124,7 +186,7 @@ fn dropped(
     words: &mut [u32; 131072],
     colours: &mut [u32; 16384],
     bytes: &mut [u8; 16384],
-    out: &mut [u32; 131072],
+    out: &mut [u32; 229376],
 ) -> Said {
     let x = damage::dropped(s.night, words, colours, bytes, out);
     further(
@@ -145,7 +207,7 @@ fn run(
     words: &mut [u32; 131072],
     colours: &mut [u32; 16384],
     bytes: &mut [u8; 16384],
-    out: &mut [u32; 131072],
+    out: &mut [u32; 229376],
 ) {
     let t = night::spent(words, colours, bytes);
     let a = first(t, words, colours, bytes, out);
@@ -158,6 +220,6 @@ fn main() {
     let mut words = [0u32; 131072];
     let mut colours = [0u32; 16384];
     let mut bytes = [0u8; 16384];
-    let mut out = [0u32; 131072];
+    let mut out = [0u32; 229376];
     run(&mut words, &mut colours, &mut bytes, &mut out);
 }

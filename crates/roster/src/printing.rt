@@ -1,6 +1,6 @@
 // Lines of plain words. Each function answers whether all of its line could be written.
-use call_export::Exported;
-use call_export::Reason;
+use part_rows::Exported;
+use part_rows::Reason;
 
 fn say(text: &[u8]) -> bool {
     io::write_all(1, text)
@@ -27,8 +27,8 @@ fn reason(r: Reason) -> bool {
     match r {
         Reason::Circle => say(b"the list runs in a circle\n"),
         Reason::NoRoom => say(b"no room for the next\n"),
-        Reason::Refused(n) => number(b"Read refuses the next by ", n),
-        Reason::NoReference => say(b"the next has no reference in its link word\n"),
+        Reason::Refused(n) => number(b"a read of the next is refused by ", n),
+        Reason::NoReference => say(b"the link of the next is no reference\n"),
     }
 }
 

@@ -18,10 +18,11 @@ use Rattle.machine.specs.WellFormed.{Names, WellFormed}
 use Rattle.machine.specs.Session.{Call, does, session, lastOf}
 use Rattle.machine.specs.Session.Call.{Format, StoreNumber, StoreReference, SetRoot, Allocate, Work}
 use Rattle.theory_promises.specs.Demand2.{Untouched}
-use Rattle.call_export.specs.declared.Reason.the-variants.{Refused}
-use Rattle.call_export.specs.Export.{complete, stopped, export}
-use Rattle.call_export.specs.Lists.{Listed}
-use Rattle.theory_clause.specs.Lasting.{SameList, Leaves}
+use Rattle.part_rows.specs.declared.Reason.the-variants.{Refused}
+use Rattle.part_rows.specs.Rows.{complete, stopped}
+use Rattle.part_rows.specs.Lists.{Listed}
+use Rattle.call_export.specs.Export.{blockRows, export}
+use Rattle.theory_clause.specs.Lasting.{oneBlock, SameList, Leaves}
 
 -- block 2 at the root; block 3 in its word 1, with 77 in word 1; block 4 in word 0 of 3, with 88 in word 1 and no next
 abbrev pub night : Heap
@@ -41,7 +42,7 @@ busy = Allocate 2 7 ∷ Allocate 2 7 ∷ Work 30 ∷ Allocate 2 7 ∷ Allocate 2
 
 pub record Lasts : Type 0 where
   pub formed : WellFormed night
-  pub listed : Listed night 0 3 (3 ∷ 4 ∷ [])
+  pub listed : Listed (blockRows 0 night) 3 (3 ∷ 4 ∷ [])
   pub held : Names night (night .regs .root) 3
   pub rooted : night .regs .root ≢ 0
   pub untouched : Untouched busy night (3 ∷ 4 ∷ [])
@@ -51,7 +52,7 @@ pub record Lasts : Type 0 where
   pub given : lastOf (Allocate 2 7 ∷ Allocate 2 7 ∷ Work 30 ∷ Allocate 2 7 ∷ Allocate 2 7 ∷ Work 30 ∷ []) (Allocate 2 7) night .answer .refusal ≡ 0
   pub cycles : (night .regs .cycle ≡ 1) × (session busy night .regs .cycle ≡ 6)
   pub before : export 3 0 night buffer ≡ complete 2 (rows 88)
-  pub lasts : SameList night (session busy night) 3 0 (3 ∷ 4 ∷ [])
+  pub lasts : SameList (oneBlock 0) night (session busy night) 3 (3 ∷ 4 ∷ [])
   pub after : export 3 0 (session busy night) buffer ≡ complete 2 (rows 88)
 
 -- three blocks more, so that none is free; then an allocation held by the first row, which does its unit and is refused; a store into the
@@ -68,7 +69,7 @@ pub record Unmoved : Type 0 where
   pub answers : refusals refused night ≡ 0 ∷ 0 ∷ 0 ∷ 7 ∷ 4 ∷ 4 ∷ 1 ∷ 0 ∷ []
   pub untouched : Untouched refused night (3 ∷ 4 ∷ [])
   pub left : Leaves refused night (night .regs .root) 1
-  pub lasts : SameList night (session refused night) 3 0 (3 ∷ 4 ∷ [])
+  pub lasts : SameList (oneBlock 0) night (session refused night) 3 (3 ∷ 4 ∷ [])
 
 -- 99 stored in the second row
 pub record Touched : Type 0 where

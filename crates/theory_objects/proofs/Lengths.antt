@@ -1,6 +1,7 @@
 -- An object of n blocks has 7n fields.
 --     fields-within            FieldsWithin
 --     fields-past              FieldsPast
+--     passed                   what the tests at one block of a walk that passes say
 -- A walk that passes does so up to each block before its end, and where the last link is no way on, each longer walk is refused there.
 -- Assumes nothing.
 use Prim.Native.Nat.{ℕ, zero, suc, _-_, _*_, _/_, _≤_, _<_}
@@ -32,7 +33,7 @@ refusal-read h b k =
 
 module _ (h : Heap) where
   -- the tests at one block of a walk that passes
-  passed : (j b : ℕ) → walkRefusal (suc j) b h ≡ 0 → (holderRefusal h b ≡ 0) × (linkRefusal b h ≡ 0) × (walkRefusal j (nextOf h b) h ≡ 0)
+  pub passed : (j b : ℕ) → walkRefusal (suc j) b h ≡ 0 → (holderRefusal h b ≡ 0) × (linkRefusal b h ≡ 0) × (walkRefusal j (nextOf h b) h ≡ 0)
   unfolding walkRefusal
   passed j b e =
       let a = first-zero (holderRefusal h b) (linkRefusal b h ▷ walkRefusal j (nextOf h b) h) e in

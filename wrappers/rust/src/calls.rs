@@ -29,6 +29,22 @@ macro_rules! seeing {
     };
 }
 
+/// Calls that change nothing of the heap, and write to a further buffer.
+macro_rules! writing {
+    ($($(#[$doc:meta])* $name:ident = $function:ident ($($x:ident),*);)*) => {
+        $($(#[$doc])*
+        pub fn $name(regs: Regs, words: &[u32], colours: &[u32], bytes: &[u8], out: &mut [u32] $(, $x: u32)*) -> ExportAnswer {
+            // SAFETY: as above; out is lent to change, so it overlaps none of the others.
+            unsafe {
+                raw::$function(
+                    regs, words.as_ptr(), words.len(), colours.as_ptr(), colours.len(), bytes.as_ptr(), bytes.len(),
+                    out.as_mut_ptr(), out.len() $(, $x)*
+                )
+            }
+        })*
+    };
+}
+
 changing! {
     /// Format: a heap of m blocks, all free, at pace u. The lengths must be 8m, m and m.
     format = dergamoyne_format(m, u);
@@ -61,6 +77,14 @@ seeing! {
     audit = dergamoyne_audit() -> Answer;
 }
 
+writing! {
+    /// Export: the rows of the list that starts at the block start and goes on by the reference in word link, to out.
+    export = dergamoyne_export(start, link);
+    /// Export objects: the same for a list whose rows are objects, the first `fields` fields of each, which goes on by the reference
+    /// in field link.
+    export_objects = dergamoyne_export_objects(start, fields, link);
+}
+
 /// The version of the library that is linked: 1,000,000 for each major, 1,000 for each minor, 1 for each patch.
 pub fn version() -> u32 {
     // SAFETY: it takes nothing and answers a number.
@@ -71,24 +95,4 @@ pub fn version() -> u32 {
 pub fn fits_library() -> bool {
     // SAFETY: it takes nothing and answers a number.
     version() == raw::VERSION && unsafe { raw::dergamoyne_record_size() } as usize == std::mem::size_of::<Regs>()
-}
-
-/// Export: the rows of the list that starts at the block start and goes on by the reference in word link, to out.
-pub fn export(regs: Regs, words: &[u32], colours: &[u32], bytes: &[u8], out: &mut [u32], start: u32, link: u32) -> ExportAnswer {
-    // SAFETY: as above; out is lent to change, so it overlaps none of the others.
-    unsafe {
-        raw::dergamoyne_export(
-            regs,
-            words.as_ptr(),
-            words.len(),
-            colours.as_ptr(),
-            colours.len(),
-            bytes.as_ptr(),
-            bytes.len(),
-            out.as_mut_ptr(),
-            out.len(),
-            start,
-            link,
-        )
-    }
 }

@@ -44,9 +44,9 @@ pub enum Reason {
     Circle,
     /// The next row doesn't fit the buffer.
     NoRoom,
-    /// Read refuses the link word of the next block.
+    /// Read refuses the link word of the next block, or Read field a field of the next object.
     Refused(Refusal),
-    /// The link word of the next block holds a number.
+    /// The link of the next row holds a number.
     NoReference,
     /// A reason, by its number, that this version doesn't know.
     Unknown(u32),
@@ -148,6 +148,13 @@ impl Heap {
     /// eight words a row. Exactly the rows counted are written.
     pub fn export(&self, out: &mut [u32], start: u32, link: u32) -> Exported {
         exported(calls::export(self.regs, &self.words, &self.colours, &self.bytes, out, start, link))
+    }
+
+    /// The rows of the list that starts at the object start, where 0 is the empty list, and goes on by the reference in field link: the
+    /// fields 0 to `fields` - 1 of each, 1 to 1,792, in order. Exactly the rows counted are written. With fields or link out of range no
+    /// row is, and the reason is refusal 3.
+    pub fn export_objects(&self, out: &mut [u32], start: u32, fields: u32, link: u32) -> Exported {
+        exported(calls::export_objects(self.regs, &self.words, &self.colours, &self.bytes, out, start, fields, link))
     }
 }
 

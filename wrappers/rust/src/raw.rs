@@ -44,7 +44,7 @@ pub struct LookAnswer {
     pub at: u32,
 }
 
-/// What Export answers: complete is 1 or 0; the rows written; why not complete, 1 to 4; Read's refusal with reason 3.
+/// What the exports answer: complete is 1 or 0; the rows written; why not complete, 1 to 4; with reason 3 a refusal.
 #[repr(C)]
 #[derive(Clone, Copy, Debug, PartialEq, Eq)]
 pub struct ExportAnswer {
@@ -55,7 +55,7 @@ pub struct ExportAnswer {
 }
 
 /// The version of the library that this crate is for, as `dergamoyne_version` gives it.
-pub const VERSION: u32 = 2000;
+pub const VERSION: u32 = 3000;
 
 // The library is for processors with lengths of 64 bits.
 const _: () = assert!(std::mem::size_of::<usize>() == 8);
@@ -217,6 +217,20 @@ extern "C" {
         out: *mut u32,
         out_length: usize,
         start: u32,
+        link: u32,
+    ) -> ExportAnswer;
+    pub fn dergamoyne_export_objects(
+        regs: Regs,
+        words: *const u32,
+        words_length: usize,
+        colours: *const u32,
+        colours_length: usize,
+        bytes: *const u8,
+        bytes_length: usize,
+        out: *mut u32,
+        out_length: usize,
+        start: u32,
+        fields: u32,
         link: u32,
     ) -> ExportAnswer;
 }

@@ -1,4 +1,4 @@
-//! Document 01's listing, its refusals, the export, and an object longer than a block, by `Heap` and by the calls over slices.
+//! Document 01's listing, its refusals, the exports, and an object longer than a block, by `Heap` and by the calls over slices.
 use dergamoyne::{calls, Allocated, Exported, Heap, Reason, Refusal, Refused, Regs, Word};
 
 fn by(refusal: Refusal) -> Refused {
@@ -139,6 +139,31 @@ fn objects() {
     assert!(h.audit());
 }
 
+/// The list of the objects 2 and 4, of two blocks each, by the links in field 7: nine fields of each row, complete and not.
+#[test]
+fn exports_of_objects() {
+    let mut h = Heap::new(4, 1).unwrap();
+    for (holder, word) in [(0, 0), (3, 0)] {
+        let b = h.allocate_chain(holder, word, 2).unwrap().block;
+        h.store_field_reference(b, 7, 0).unwrap();
+        h.store_field_number(b, 8, 10 * b).unwrap();
+    }
+    let mut out = [7; 19];
+    assert_eq!(h.export_objects(&mut out, 2, 9, 7), Exported::Complete(2));
+    assert_eq!(out, [0, 0, 0, 0, 0, 0, 0, 4, 20, 0, 0, 0, 0, 0, 0, 0, 0, 40, 7]);
+    assert_eq!(h.export_objects(&mut [], 0, 9, 7), Exported::Complete(0));
+    assert_eq!(h.export_objects(&mut out[..17], 2, 9, 7), Exported::Stopped(1, Reason::NoRoom));
+    assert_eq!(h.export_objects(&mut out, 2, 9, 8), Exported::Stopped(0, Reason::NoReference));
+    let no_such = Exported::Stopped(0, Reason::Refused(Refusal::NoSuchWord));
+    for (start, fields, link) in [(2, 15, 7), (6, 9, 7), (2, 9, 9), (0, 0, 0), (0, 1793, 0)] {
+        assert_eq!(h.export_objects(&mut out, start, fields, link), no_such);
+    }
+    h.store_number(4, 7, 5).unwrap();
+    assert_eq!(h.export_objects(&mut out, 2, 9, 7), Exported::Stopped(1, Reason::Refused(Refusal::NoSuchWord)));
+    h.store_field_reference(2, 7, 2).unwrap();
+    assert_eq!(h.export_objects(&mut [0; 36], 2, 9, 7), Exported::Stopped(4, Reason::Circle));
+}
+
 /// Heaps in different threads don't meet.
 #[test]
 fn threads() {
@@ -162,6 +187,6 @@ fn threads() {
 /// The library is the one that the crate is for.
 #[test]
 fn version() {
-    assert_eq!(calls::version(), 2000);
+    assert_eq!(calls::version(), 3000);
     assert!(calls::fits_library());
 }

@@ -1,6 +1,6 @@
 -- `call_export::write_row` meets its contract. Assumes nothing.
 use mathlib.Core.Path.{refl}
-use Rattle.call_export.proofs.Rows.{row-back}
+use Rattle.call_export.proofs.Rows.{block-back}
 use borrow.Author.Needs.{needs}
 use Rattle.call_export.proofs.write_row.Statement.{statement}
 use Rattle.call_export.proofs.write_row.Tie as tie
@@ -51,7 +51,9 @@ same-length : tie.Need-same-length
 same-length c = search needs
 
 returns : tie.Need-returns
-returns c = row-back _ _ _ _ (c .before .before .copy .ensures)
+returns c =
+    let c-start = c .before .before .before .before .before .before .before in
+    block-back _ _ _ _ (c-start .pre .1) (c .before .before .copy .ensures)
 
 pub write-row-spec : {M : Type 1} → statement M
 write-row-spec =

@@ -1,8 +1,8 @@
--- `call_export::numbers_of` meets its contract. Assumes nothing.
+-- `part_rows::numbers_of` meets its contract. Assumes nothing.
 use mathlib.Core.Path.{refl}
 use borrow.Author.Needs.{needs}
-use Rattle.call_export.proofs.numbers_of.Statement.{statement}
-use Rattle.call_export.proofs.numbers_of.Tie as tie
+use Rattle.part_rows.proofs.numbers_of.Statement.{statement}
+use Rattle.part_rows.proofs.numbers_of.Tie as tie
 
 enum-known-x : tie.Need-enum-known-x
 enum-known-x c = search needs

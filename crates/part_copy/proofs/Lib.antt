@@ -1,0 +1,2 @@
+-- Laws of the copying, and the functions' proofs.
+pub mod Copies

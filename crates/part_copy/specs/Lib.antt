@@ -1,0 +1,2 @@
+-- The words of a chain of blocks.
+pub mod Chains
