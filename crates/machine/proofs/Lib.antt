@@ -11,6 +11,7 @@ pub mod Colours
 pub mod Bytes
 pub mod Steps
 pub mod Parts
+pub mod LowestBit
 pub mod Seeing
 pub mod Marking
 pub mod Sweeping

@@ -1,46 +1,38 @@
 -- Laws of the audit's tests of a block's eight words.
---     names-on, names-off, names-end       the loop over its references: a word that passes, a word that fails, the end
+--     names-on, names-off, names-end       the loop over its references: the word of the lowest bit passes or fails, and the end
 --     zero-off, zero-as                    its words 1 to 7: one of the first three isn't 0, or the last four decide
 -- Assumes nothing.
-use Prim.Native.Nat.{ℕ, _+_}
-use mathlib.Core.Path.{_≡_, refl, sym}
+use Prim.Native.Nat.{ℕ, _-_, _*_, _%_, _^_, _<_}
+use mathlib.Core.Path.{_≡_, refl}
 use mathlib.Core.Logic.{_≢_}
 use mathlib.Core.Bool.{Bool, true, false, _&&_, and-assoc, and-true}
-use mathlib.Core.List.{List, []}
-use native.Mathlib.Numerals.{add-one}
+use mathlib.Core.List.{List}
 use native.Mathlib.Omega.{arith}
 use lib.Bits.{bitOr, or-add-and, and-le-r}
+use lib.Count.{trailingZeros}
 use lib.Dec.{eqb}
 use lib.ListN.{getD}
 use borrow.Author.Tests.{eq-eqb, ne-eqb}
 use Rattle.machine.specs.declared.Regs.{Regs}
-use Rattle.machine.specs.Tests.{if_then_else_}
-use Rattle.machine.specs.Block.{bit, referencesFrom}
+use Rattle.machine.specs.Block.{references}
 use Rattle.machine.specs.Audit.{mayName, mayNameAll, zeroFrom}
-use Rattle.machine.proofs.Tests.{clash, by-eq}
+use Rattle.machine.proofs.Tests.{by-eq}
+use Rattle.machine.proofs.LowestBit.{word-first, none-left}
 
-module _ (r : Regs) (cs : List ℕ) (s : Bool) (part : List ℕ) (byte : ℕ) (t : Bool) (n w : ℕ) (i : t ≡ mayNameAll r cs s (referencesFrom n w part byte)) where
-  pub names-on :
-      (k : ℕ) (q : Bool) → n ≡ k + 1 → q ≡ bit byte w → (if q then mayName r cs s (getD part w 0) else true) ≡ true
-      → t ≡ mayNameAll r cs s (referencesFrom k (w + 1) part byte)
-  unfolding referencesFrom mayNameAll
-  names-on k q e b = go q (sym b)
-    where
-      go : (q : Bool) → bit byte w ≡ q → (if q then mayName r cs s (getD part w 0) else true) ≡ true → t ≡ mayNameAll r cs s (referencesFrom k (w + 1) part byte)
-      go true b h = simp (b, h) at (rw (e, add-one k) at i)
-      go false b h = simp b at (rw (e, add-one k) at i)
+module _ (r : Regs) (cs : List ℕ) (s : Bool) (part : List ℕ) (rest : ℕ) where
+  module _ (t : ℕ) (f : rest < 256) (n : rest ≢ 0) (e : t ≡ trailingZeros 32 rest) where
+    pub names-on : mayName r cs s (getD part t 0) ≡ true
+        → mayNameAll r cs s (references part rest) ≡ mayNameAll r cs s (references part (rest - 1 * 2 ^ t % 4294967296))
+    unfolding mayNameAll
+    names-on h = rw (word-first part rest t f n e, h) refl
 
-  pub names-off : (k : ℕ) (q : Bool) → n ≡ k + 1 → q ≡ bit byte w → (if q then mayName r cs s (getD part w 0) else true) ≡ false → false ≡ t
-  unfolding referencesFrom mayNameAll
-  names-off k q e b = go q (sym b)
-    where
-      go : (q : Bool) → bit byte w ≡ q → (if q then mayName r cs s (getD part w 0) else true) ≡ false → false ≡ t
-      go true b h = sym (simp (b, h) at (rw (e, add-one k) at i))
-      go false b h = clash refl h
+    pub names-off : mayName r cs s (getD part t 0) ≡ false → mayNameAll r cs s (references part rest) ≡ false
+    unfolding mayNameAll
+    names-off h = rw (word-first part rest t f n e, h) refl
 
-  pub names-end : referencesFrom n w part byte ≡ [] → true ≡ t
+  pub names-end : rest ≡ 0 → mayNameAll r cs s (references part rest) ≡ true
   unfolding mayNameAll
-  names-end e = sym (rw e at i)
+  names-end z = rw (none-left part rest z) refl
 
 -- an or is 0 exactly where both sides are
 or-zero : (a b : ℕ) → eqb (bitOr a b) 0 ≡ (eqb a 0 && eqb b 0)

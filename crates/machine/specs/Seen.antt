@@ -1,9 +1,8 @@
--- What marking sees of the references of a block before it writes: whether each is 0 or an allocated block, as document 01 asks, and
--- whether one of them names a white block, without which there is nothing to grey.
+-- What marking sees of a reference of a block before it writes: whether it is 0 or an allocated block, as document 01 asks, and whether
+-- it names a white block, which is to be greyed.
 --     seenColour c             what a reference to a block of colour c is
 --     seen m cs b              what the reference b is
---     seenAll f m cs bs        what the references bs are, f telling whether a white block was seen before them
---     unharmed s               they are 0 or allocated blocks
+--     unharmed s               it is 0 or an allocated block
 --     Named m bs               each of bs is 0 or a block
 -- Assumes nothing.
 use Prim.Native.Nat.{ℕ}
@@ -31,16 +30,6 @@ unfoldable pub seen : ℕ → List ℕ → ℕ → Seen
 seen m cs b =
     if eqb b 0 then Settled else
     if isBlock m b then seenColour (colour m (colourWord cs b)) else Damaged
-
--- one reference seen, and what the others are if no white block, or if one, was seen up to here
-abbrev pub seenNext : Seen → Seen → Seen → Seen
-seenNext Settled x y = x
-seenNext ToGrey x y = y
-seenNext Damaged x y = Damaged
-
-unfoldable pub seenAll : Bool → ℕ → List ℕ → List ℕ → Seen
-seenAll f m cs [] = if f then ToGrey else Settled
-seenAll f m cs (b ∷ bs) = seenNext (seen m cs b) (seenAll f m cs bs) (seenAll true m cs bs)
 
 abbrev pub unharmed : Seen → Bool
 unharmed Settled = true

@@ -141,7 +141,7 @@ pub enum Step {
     Damage,
 }
 
-// What marking sees of a block's references before it writes: none names a white block; one does, which is to be greyed; or one is
+// What marking sees of a reference before it writes: it is 0 or a block that isn't white; a white block, which is to be greyed; or
 // neither 0 nor an allocated block.
 pub enum Seen {
     Settled,

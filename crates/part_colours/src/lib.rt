@@ -6,7 +6,7 @@ use machine::Colour;
 use machine::Seen;
 ghost use mathlib.Core.Path.{_≡_};
 ghost use mathlib.Core.Logic.{_≢_};
-ghost use Prim.Native.Nat.{_≤_};
+ghost use Prim.Native.Nat.{_+_, _%_, _≤_};
 ghost use lib.ListN.{length};
 ghost use Rattle.machine.specs.WellFormed.{Block};
 ghost use Rattle.machine.specs.Block.{isBlock};
@@ -113,16 +113,21 @@ pub fn grey_white(head: u32, colours: &mut [u32], b: u32) -> u32
     head
 }
 
+// b - 2 in 32 bits, where it wraps: for 0 and 1 it is above every place of a block. One comparison then tells a block.
+pub fn less_two(b: u32) -> u32
+    ensures { λ r. ⌜ r ≡ (b + 4294967294) % 4294967296 ⌝ }
+{
+    ((b as u64 + 4294967294) % 4294967296) as u32
+}
+
 // What the reference b is to the block that is marked.
 pub fn seen(m: u32, colours: &[u32], b: u32) -> Seen
     requires { ⌜ (m ≤ 16384) × (length (now colours) ≡ m) ⌝ }
     ensures { λ r. ⌜ r ≡ seen m (now (colours .entry)) b ⌝ }
 {
-    if b == 0 {
-        return Seen::Settled;
-    }
-    if is_block(m, b) {
-        let word = word_of(colours, b);
+    let i = less_two(b);
+    if i < m {
+        let word = colours[i as usize];
         if word == machine::WHITE {
             return Seen::ToGrey;
         }
@@ -132,6 +137,10 @@ pub fn seen(m: u32, colours: &[u32], b: u32) -> Seen
         if word <= m + 1 {
             return Seen::Settled;
         }
+        return Seen::Damaged;
+    }
+    if b == 0 {
+        return Seen::Settled;
     }
     Seen::Damaged
 }

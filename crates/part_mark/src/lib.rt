@@ -7,84 +7,62 @@ use part_step::End;
 use part_step::Stretch;
 ghost use mathlib.Core.Path.{_≡_};
 ghost use mathlib.Core.Logic.{_≢_};
-ghost use mathlib.Core.Bool.{false};
-ghost use Prim.Native.Nat.{_%_, _≤_, _<_};
-ghost use lib.Dec.{eqb};
-ghost use lib.ListN.{length, getD};
+ghost use Prim.Native.Nat.{_≤_, _<_};
+ghost use lib.ListN.{length};
 ghost use Rattle.machine.specs.declared.Step.the-variants.{Mark};
-ghost use Rattle.machine.specs.declared.Seen.the-variants.{Settled};
-ghost use Rattle.machine.specs.Tests.{if_then_else_};
 ghost use Rattle.machine.specs.Registers.{marking};
 ghost use Rattle.machine.specs.WellFormed.{Block};
 ghost use Rattle.machine.specs.Block.{references};
-ghost use Rattle.machine.specs.Colouring.{greyWhite, greyAll};
+ghost use Rattle.machine.specs.Colouring.{greyAll};
 ghost use Rattle.machine.specs.Heap.{heap};
 ghost use Rattle.machine.specs.Ready.{Ready};
-ghost use Rattle.machine.specs.Seen.{seen, seenAll, Named};
-ghost use Rattle.machine.specs.OneUnit.{act, unit, ended};
+ghost use Rattle.machine.specs.Seen.{Named};
+ghost use Rattle.machine.specs.OneUnit.{allSound, act, unit, ended};
 ghost use Rattle.part_step.specs.Going.{Went};
+ghost use Rattle.part_mark.specs.Whites.{whites, looked};
 
-// What word w is, which is a reference where the rest of the byte is odd.
-pub fn seen_word(m: u32, colours: &[u32], part: &[u32], rest: u8, w: usize) -> Seen
-    requires { ⌜ (m ≤ 16384) × (length (now colours) ≡ m) × (length (now part) ≡ 8) × (w < 8) ⌝ }
-    ensures { λ x. ⌜ x ≡ (if eqb (rest % 2) 1 then seen m (now (colours .entry)) (getD (now (part .entry)) w 0) else Settled) ⌝ }
-{
-    if rest % 2 == 1 {
-        return part_colours::seen(m, colours, part[w]);
-    }
-    Seen::Settled
+// What the first pass over a block's references answers: the byte of the words that name white blocks, or that a reference is neither 0
+// nor an allocated block.
+pub enum Looked {
+    Whites(u32),
+    Damaged,
 }
 
-// What the references among eight words are. The rest of the byte tells when there are no more.
-pub fn seen_all(m: u32, colours: &[u32], part: &[u32], byte: u8) -> Seen
+// What the references among eight words are, from set bit to set bit of the byte.
+pub fn seen_all(m: u32, colours: &[u32], part: &[u32], byte: u8) -> Looked
     requires { ⌜ (m ≤ 16384) × (length (now colours) ≡ m) × (length (now part) ≡ 8) ⌝ }
-    ensures { λ x. ⌜ x ≡ seenAll false m (now (colours .entry)) (references (now (part .entry)) byte) ⌝ }
+    ensures { λ x. ⌜ x ≡ looked (allSound m (now (colours .entry)) (references (now (part .entry)) byte)) (whites m (now (colours .entry)) (now (part .entry)) byte) ⌝ }
 {
-    let mut rest = byte;
-    let mut w: usize = 0;
-    let mut white = false;
+    let mut rest = byte as u32;
+    let mut white: u32 = 0;
     while rest != 0 {
-        match seen_word(m, colours, part, rest, w) {
+        let t = u32::trailing_zeros(rest);
+        let bit = 1u32 << t;
+        match part_colours::seen(m, colours, part[t as usize]) {
             Seen::Settled => {}
             Seen::ToGrey => {
-                white = true;
+                white += bit;
             }
             Seen::Damaged => {
-                return Seen::Damaged;
+                return Looked::Damaged;
             }
         }
-        rest /= 2;
-        w += 1;
+        rest -= bit;
     }
-    if white {
-        return Seen::ToGrey;
-    }
-    Seen::Settled
+    Looked::Whites(white)
 }
 
-// Word w, which is a reference where the rest of the byte is odd, greys the white block that it names. Answers the grey head afterwards.
-pub fn grey_word(head: u32, colours: &mut [u32], part: &[u32], rest: u8, w: usize) -> u32
-    requires { ⌜ (length (now part) ≡ 8) × (w < 8) × (rest % 2 ≡ 1 → getD (now part) w 0 ≢ 0 → Block (length (now colours)) (getD (now part) w 0)) ⌝ }
-    ensures { λ g. ⌜ (record { head = g; cells = now (colours .exit) }) ≡ (if eqb (rest % 2) 1 then greyWhite (length (now (colours .entry))) (getD (now (part .entry)) w 0) (record { head = head; cells = now (colours .entry) }) else (record { head = head; cells = now (colours .entry) })) ⌝ }
-{
-    if rest % 2 == 1 {
-        return part_colours::grey_white(head, colours, part[w]);
-    }
-    head
-}
-
-// Each white block named among eight words becomes grey, in order. Answers the grey head afterwards.
-pub fn grey_all(head: u32, colours: &mut [u32], part: &[u32], byte: u8) -> u32
-    requires { ⌜ (length (now part) ≡ 8) × Named (length (now colours)) (references (now part) byte) ⌝ }
-    ensures { λ g. ⌜ (record { head = g; cells = now (colours .exit) }) ≡ greyAll (length (now (colours .entry))) (references (now (part .entry)) byte) (record { head = head; cells = now (colours .entry) }) ⌝ }
+// Each white block named by a word whose bit is set becomes grey, in order. Answers the grey head afterwards.
+pub fn grey_all(head: u32, colours: &mut [u32], part: &[u32], bits: u32) -> u32
+    requires { ⌜ (bits < 256) × (length (now part) ≡ 8) × Named (length (now colours)) (references (now part) bits) ⌝ }
+    ensures { λ g. ⌜ (record { head = g; cells = now (colours .exit) }) ≡ greyAll (length (now (colours .entry))) (references (now (part .entry)) bits) (record { head = head; cells = now (colours .entry) }) ⌝ }
 {
     let mut g = head;
-    let mut rest = byte;
-    let mut w: usize = 0;
+    let mut rest = bits;
     while rest != 0 {
-        g = grey_word(g, colours, part, rest, w);
-        rest /= 2;
-        w += 1;
+        let t = u32::trailing_zeros(rest);
+        g = part_colours::grey_white(g, colours, part[t as usize]);
+        rest -= 1u32 << t;
     }
     g
 }
@@ -97,18 +75,12 @@ pub fn mark(r: Regs, words: &[u32], colours: &mut [u32], bytes: &[u8]) -> Progre
     let i = r.grey as usize - 2;
     let at = 8 * i;
     let byte = bytes[i];
-    match seen_all(r.blocks, &colours[..], &words[at..at + 8], byte) {
-        Seen::Settled => {
-            let next = part_colours::to_black(r.grey, colours);
-            Progress::Done(machine::with_grey(r, next))
-        }
-        Seen::ToGrey => {
-            let next = part_colours::to_black(r.grey, colours);
-            let head = grey_all(next, colours, &words[at..at + 8], byte);
-            Progress::Done(machine::with_grey(r, head))
-        }
-        Seen::Damaged => Progress::Damaged,
-    }
+    let Looked::Whites(white) = seen_all(r.blocks, &colours[..], &words[at..at + 8], byte) else {
+        return Progress::Damaged;
+    };
+    let next = part_colours::to_black(r.grey, colours);
+    let head = grey_all(next, colours, &words[at..at + 8], white);
+    Progress::Done(machine::with_grey(r, head))
 }
 
 // A unit while marking, with a grey block.

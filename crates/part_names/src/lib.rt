@@ -3,10 +3,8 @@ use machine::Colour;
 use machine::Regs;
 use machine::Standing;
 ghost use mathlib.Core.Path.{_≡_};
-ghost use mathlib.Core.Bool.{true};
 ghost use Prim.Native.Nat.{_≤_};
 ghost use lib.ListN.{length};
-ghost use Rattle.machine.specs.Tests.{if_then_else_};
 ghost use Rattle.machine.specs.Block.{references};
 ghost use Rattle.machine.specs.Audit.{isLive, notWhite, mayBeNamed, mayName, mayNameAll};
 
@@ -66,28 +64,16 @@ pub fn may_name(r: Regs, colours: &[u32], strict: bool, x: u32) -> bool
     false
 }
 
-// Whether a word that holds x passes: it is no reference, or a reference may hold x.
-fn word_passes(r: Regs, colours: &[u32], strict: bool, reference: bool, x: u32) -> bool
-    requires { ⌜ (r .blocks ≤ 16384) × (length (now colours) ≡ r .blocks) ⌝ }
-    ensures { λ t. ⌜ t ≡ (if reference then mayName r (now (colours .entry)) strict x else true) ⌝ }
-{
-    if reference {
-        return may_name(r, colours, strict, x);
-    }
-    true
-}
-
-// Whether every reference among a block's eight words may hold what it holds. The rest of the byte tells when there are no more.
+// Whether every reference among a block's eight words may hold what it holds, from set bit to set bit of the byte.
 pub fn may_name_all(r: Regs, colours: &[u32], strict: bool, part: &[u32], byte: u8) -> bool
     requires { ⌜ (r .blocks ≤ 16384) × (length (now colours) ≡ r .blocks) × (length (now part) ≡ 8) ⌝ }
     ensures { λ t. ⌜ t ≡ mayNameAll r (now (colours .entry)) strict (references (now (part .entry)) byte) ⌝ }
 {
-    let mut rest = byte;
-    let mut w = 0;
+    let mut rest = byte as u32;
     while rest != 0 {
-        if word_passes(r, colours, strict, rest % 2 == 1, part[w]) {
-            rest /= 2;
-            w += 1;
+        let t = u32::trailing_zeros(rest);
+        if may_name(r, colours, strict, part[t as usize]) {
+            rest -= 1u32 << t;
         } else {
             return false;
         }

@@ -1,5 +1,5 @@
 -- `part_mark::grey_all` meets its contract: what is greyed is what remains to be greyed. Assumes nothing.
-use Prim.Native.Nat.{_-_, _/_, _^_, _≤_}
+use Prim.Native.Nat.{_<_}
 use mathlib.Core.Path.{_≡_, refl, sym, _∙_}
 use native.Mathlib.Omega.{arith}
 use lib.ListN.{length}
@@ -7,66 +7,73 @@ use Rattle.machine.specs.Block.{references}
 use Rattle.machine.specs.Colouring.{greyAll}
 use Rattle.machine.specs.Seen.{Named}
 use Rattle.machine.proofs.Blocks.{block-as}
-use Rattle.machine.proofs.Marking.{from, rest-first, rest-next, rest-within, references-none, grey-on, grey-end, named-here, named-on}
+use Rattle.machine.proofs.LowestBit.{lowest-within, lowest-sub, lowest-less}
+use Rattle.machine.proofs.Marking.{grey-on, grey-end, named-here, named-on}
 use borrow.Author.Needs.{needs}
 use Rattle.part_mark.proofs.grey_all.Statement.{statement}
 use Rattle.part_mark.proofs.grey_all.Tie as tie
 
 abbrev Inv-loop : tie.InvT-loop
-Inv-loop head colours₀ part byte g₀ rest₀ w₀ colours g rest w =
-    (w ≤ 8) × (rest ≡ byte / 2 ^ w) × (length colours ≡ length colours₀) × Named (length colours₀) (from part byte w)
-    × (greyAll (length colours₀) (references part byte) (record { head = head; cells = colours₀ }) ≡ greyAll (length colours₀) (from part byte w) (record { head = g; cells = colours }))
+Inv-loop head colours₀ part bits g₀ rest₀ colours g rest =
+    (rest < 256) × (length colours ≡ length colours₀) × Named (length colours₀) (references part rest)
+    × (greyAll (length colours₀) (references part bits) (record { head = head; cells = colours₀ }) ≡ greyAll (length colours₀) (references part rest) (record { head = g; cells = colours }))
 
 abbrev μ-loop : tie.MeasureT-loop
-μ-loop head colours₀ part byte g₀ rest₀ w₀ colours g rest w = 8 - w
+μ-loop head colours₀ part bits g₀ rest₀ colours g rest = rest
 
 loop-holds : tie.Need-loop-holds Inv-loop μ-loop
-loop-holds c = (omega arith, rest-first (c .before .before .args .part .now) _, refl, c .before .before .pre .1, refl)
+loop-holds c = let c-pre = c .before .before .pre in (c-pre .0, refl, c-pre .2, refl)
 
-grey-word-requires : tie.Need-grey-word-requires Inv-loop μ-loop
-grey-word-requires c κs =
-    let c-args = c .before .before .before .before .before .args in
-    let c-fits = c .before .before .before .before .before .fits in
-    let c-pre = c .before .before .before .before .before .pre in
-    let l = rest-within (c-args .part .now) _ _ _ (c .before .before .loop .inv .1) (c-fits .byte .fits) (c .before .before .loop .inv .0) (c .before .loop-test .taken) in
-    (c-pre .0, l, λ o n. block-as (c .before .before .loop .inv .2) (named-here _ _ _ _ (c .before .before .loop .inv .1) l _ (c .before .before .loop .inv .3) o n))
+cast-grey-white : tie.Need-cast-grey-white Inv-loop μ-loop
+cast-grey-white c = let l = lowest-within _ _ (c .before .before .loop .inv .0) (c .before .loop-test .taken) refl in search needs
 
-add-w : tie.Need-add-w Inv-loop μ-loop
-add-w c =
-    let c-args = c .before .before .before .before .before .before .before .before .args in
-    let c-loop = c .before .before .before .before .before .loop in
-    let c-fits = c .before .before .before .before .before .before .before .before .fits in
-    let c-loop-test = c .before .before .before .before .loop-test in
-    let l = rest-within (c-args .part .now) _ _ _ (c-loop .inv .1) (c-fits .byte .fits) (c-loop .inv .0) (c-loop-test .taken) in omega arith
+mul-grey-white : tie.Need-mul-grey-white Inv-loop μ-loop
+mul-grey-white c = let l = lowest-within _ _ (c .before .before .loop .inv .0) (c .before .loop-test .taken) refl in search needs
+
+shared-slice-read-grey-white : tie.Need-shared-slice-read-grey-white Inv-loop μ-loop
+shared-slice-read-grey-white c =
+    let l = lowest-within _ _ (c .before .before .before .loop .inv .0) (c .before .before .loop-test .taken) refl in search needs
+
+grey-white-requires : tie.Need-grey-white-requires Inv-loop μ-loop
+grey-white-requires c κs =
+    let c-loop = c .before .before .before .loop in
+    let c-args = c .before .before .before .before .before .before .args in
+    λ n. block-as (c-loop .inv .1) (named-here (c-args .part .now) _ _ (c-loop .inv .0) (c .before .before .loop-test .taken) refl _ (c-loop .inv .2) n)
+
+shl-rest : tie.Need-shl-rest Inv-loop μ-loop
+shl-rest c =
+    let c-loop = c .before .before .before .before .before .before .loop in
+    let l = lowest-within _ _ (c-loop .inv .0) (c .before .before .before .before .before .loop-test .taken) refl in omega arith
+
+sub-rest : tie.Need-sub-rest Inv-loop μ-loop
+sub-rest c =
+    let c-loop = c .before .before .before .before .before .before .loop in
+    lowest-sub _ _ (c-loop .inv .0) (c .before .before .before .before .before .loop-test .taken) refl
 
 loop-less : tie.Need-loop-less Inv-loop μ-loop
 loop-less c =
-    let c-args = c .before .before .before .before .before .before .before .before .args in
-    let c-loop = c .before .before .before .before .before .loop in
-    let c-fits = c .before .before .before .before .before .before .before .before .fits in
-    let c-loop-test = c .before .before .before .before .loop-test in
-    let l = rest-within (c-args .part .now) _ _ _ (c-loop .inv .1) (c-fits .byte .fits) (c-loop .inv .0) (c-loop-test .taken) in omega arith
+    let c-loop = c .before .before .before .before .before .before .loop in
+    lowest-less _ _ (c-loop .inv .0) (c .before .before .before .before .before .loop-test .taken) refl
 
 loop-again : tie.Need-loop-again Inv-loop μ-loop
 loop-again c =
-    let c-args = c .before .before .before .before .before .before .before .before .args in
-    let c-loop = c .before .before .before .before .before .loop in
-    let c-fits = c .before .before .before .before .before .before .before .before .fits in
-    let c-loop-test = c .before .before .before .before .loop-test in
-    let l = rest-within (c-args .part .now) _ _ _ (c-loop .inv .1) (c-fits .byte .fits) (c-loop .inv .0) (c-loop-test .taken) in
-    let c-grey-word = c .before .before .grey-word in (
+    let c-loop = c .before .before .before .before .before .before .loop in
+    let c-args = c .before .before .before .before .before .before .before .before .before .args in
+    let n = c .before .before .before .before .before .loop-test .taken in
+    let f = c-loop .inv .0 in
+    let l = lowest-less _ _ f n refl in
+    let c-grey-white = c .before .before .grey-white in (
       omega arith,
-      rest-next (c-args .part .now) _ _ _ (c-loop .inv .1),
-      c-grey-word .kept .1 .0 ∙ c-loop .inv .2,
-      named-on _ _ _ _ (c-loop .inv .1) l _ (c-loop .inv .3),
-      c-loop .inv .4 ∙ grey-on _ _ _ _ (c-loop .inv .1) l _ _ (rw (← c-loop .inv .2) (c-grey-word .ensures)),
+      c-grey-white .kept .1 .0 ∙ c-loop .inv .1,
+      named-on (c-args .part .now) _ _ f n refl _ (c-loop .inv .2),
+      c-loop .inv .3 ∙ grey-on (c-args .part .now) _ _ f n refl _ _ (rw (← c-loop .inv .1) (c-grey-white .ensures)),
     )
 
 same-length : tie.Need-same-length Inv-loop μ-loop
-same-length c = c .before .loop .inv .2
+same-length c = c .before .loop .inv .1
 
 returns : tie.Need-returns Inv-loop μ-loop
-returns c = grey-end _ _ _ _ (references-none _ _ _ _ (c .before .loop .inv .1) (c .loop-test .left)) _ ∙ sym (c .before .loop .inv .4)
+returns c = grey-end _ _ (c .loop-test .left) _ _ ∙ sym (c .before .loop .inv .3)
 
 pub grey-all-spec : {M : Type 1} → statement M
 grey-all-spec =
@@ -75,8 +82,12 @@ grey-all-spec =
     Inv-loop
     μ-loop
     loop-holds
-    grey-word-requires
-    add-w
+    cast-grey-white
+    mul-grey-white
+    shared-slice-read-grey-white
+    grey-white-requires
+    shl-rest
+    sub-rest
     loop-less
     loop-again
     same-length

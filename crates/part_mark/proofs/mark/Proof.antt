@@ -2,8 +2,9 @@
 use mathlib.Core.Path.{refl, _∙_}
 use native.Mathlib.Omega.{arith}
 use Rattle.machine.proofs.Parts.{part-is}
-use Rattle.machine.proofs.Seeing.{grey-named}
-use Rattle.machine.proofs.Marking.{mark-settled, mark-greyed, mark-damaged}
+use Rattle.machine.proofs.Seeing.{darker-black}
+use Rattle.machine.proofs.Marking.{mark-done, mark-damaged}
+use Rattle.part_mark.proofs.Whites.{whites-ask, greyed-as, looked-whites, looked-damaged}
 use borrow.Author.Needs.{needs}
 use Rattle.part_mark.proofs.mark.Statement.{statement}
 use Rattle.part_mark.proofs.mark.Tie as tie
@@ -38,20 +39,22 @@ part-seen-all-end c = search needs
 seen-all-requires : tie.Need-seen-all-requires
 seen-all-requires c κs = search needs
 
+enum-known-white : tie.Need-enum-known-white
+enum-known-white c = search needs
+
 enum-told : tie.Need-enum-told
 enum-told c = search needs
 
+same-length : tie.Need-same-length
+same-length c = refl
+
+returns : tie.Need-returns
+returns c =
+    let c-args = c .before .before .before .before .before .before .before .before .before .before .args in
+    mark-damaged (c-args .r) (c-args .words .now) (c-args .colours .now) (c-args .bytes .now) _ (part-is _ _) (looked-damaged _ _ (c .before .before .seen-all .ensures) (c .enum-told .given .1))
+
 to-black-requires : tie.Need-to-black-requires
 to-black-requires c κs = search needs
-
-with-grey-requires : tie.Need-with-grey-requires
-with-grey-requires c κs = tt
-
-enum-told-2 : tie.Need-enum-told-2
-enum-told-2 c = search needs
-
-to-black-requires-2 : tie.Need-to-black-requires-2
-to-black-requires-2 c κs = search needs
 
 add-grey-all : tie.Need-add-grey-all
 add-grey-all c = search needs
@@ -70,48 +73,32 @@ part-grey-all-end c = search needs
 
 grey-all-requires : tie.Need-grey-all-requires
 grey-all-requires c κs =
-    let c-args = c .before .before .before .before .before .before .before .before .before .before .before .before .before .before .before .before .args in
-    let c-seen-all = c .before .before .before .before .before .before .before .before .seen-all in
-    let c-enum-told2 = c .before .before .before .before .before .before .enum-told2 in
-    let c-to-black2 = c .before .before .before .before .to-black2 in
-    let c-pre = c .before .before .before .before .before .before .before .before .before .before .before .before .before .before .before .before .pre in
-    (omega arith, grey-named _ _ (c-args .colours .now) _ (c-seen-all .ensures) (c-enum-told2 .given .1) (c-to-black2 .kept .1 .0 ∙ c-pre .0 .colours))
+    let c-args = c .before .before .before .before .before .before .before .before .before .before .before .before .before .before .before .before .before .args in
+    let c-pre = c .before .before .before .before .before .before .before .before .before .before .before .before .before .before .before .before .before .pre in
+    let c-seen-all = c .before .before .before .before .before .before .before .before .before .seen-all in
+    let c-white = c .before .before .before .before .before .before .before .white in
+    let c-to-black = c .before .before .before .before .to-black in
+    let (f, n) = whites-ask _ (c-args .colours .now) _ _ _ _ (c-seen-all .ensures) (c-white .given .1) (c-to-black .kept .1 .0 ∙ c-pre .0 .colours) in
+    (f, omega arith, n)
 
-with-grey-requires-2 : tie.Need-with-grey-requires-2
-with-grey-requires-2 c κs = tt
-
-enum-told-3 : tie.Need-enum-told-3
-enum-told-3 c = search needs
-
-same-length : tie.Need-same-length
-same-length c = search needs
-
-returns : tie.Need-returns
-returns c =
-    let c-args = c .before .before .before .before .before .before .before .before .before .before .before .before .before .before .before .args in
-    let c-seen-all = c .before .before .before .before .before .before .before .seen-all in
-    let c-enum-told = c .before .before .before .before .before .enum-told in
-    mark-settled (c-args .r) (c-args .words .now) (c-args .colours .now) (c-args .bytes .now) _ (part-is _ _) (omega arith) (c-seen-all .ensures) (c-enum-told .given .1) (c .before .before .before .to-black .ensures) (c .with-grey .ensures)
+with-grey-requires : tie.Need-with-grey-requires
+with-grey-requires c κs = tt
 
 same-length-2 : tie.Need-same-length-2
 same-length-2 c = search needs
 
 returns-2 : tie.Need-returns-2
 returns-2 c =
-    let c-args = c .before .before .before .before .before .before .before .before .before .before .before .before .before .before .before .before .before .before .before .before .args in
-    let c-to-black2 = c .before .before .before .before .before .before .before .before .to-black2 in
-    let c-pre = c .before .before .before .before .before .before .before .before .before .before .before .before .before .before .before .before .before .before .before .before .pre in
-    let c-seen-all = c .before .before .before .before .before .before .before .before .before .before .before .before .seen-all in
-    let c-enum-told2 = c .before .before .before .before .before .before .before .before .before .before .enum-told2 in
-    mark-greyed (c-args .r) (c-args .words .now) (c-args .colours .now) (c-args .bytes .now) _ (part-is _ _) (c-to-black2 .kept .1 .0 ∙ c-pre .0 .colours) (c-seen-all .ensures) (c-enum-told2 .given .1) (c-to-black2 .ensures) (c .before .before .before .grey-all .ensures) (c .with-grey2 .ensures)
-
-same-length-3 : tie.Need-same-length-3
-same-length-3 c = refl
-
-returns-3 : tie.Need-returns-3
-returns-3 c =
-    let c-args = c .before .before .before .before .before .before .before .before .before .before .args in
-    mark-damaged (c-args .r) (c-args .words .now) (c-args .colours .now) (c-args .bytes .now) _ (part-is _ _) (c .before .before .seen-all .ensures) (c .enum-told3 .given .1)
+    let c-args = c .before .before .before .before .before .before .before .before .before .before .before .before .before .before .before .before .before .before .before .before .before .args in
+    let c-pre = c .before .before .before .before .before .before .before .before .before .before .before .before .before .before .before .before .before .before .before .before .before .pre in
+    let c-seen-all = c .before .before .before .before .before .before .before .before .before .before .before .before .before .seen-all in
+    let c-white = c .before .before .before .before .before .before .before .before .before .before .before .white in
+    let c-to-black = c .before .before .before .before .before .before .before .before .to-black in
+    let c-grey-all = c .before .before .before .grey-all in
+    let (s, q) = looked-whites _ _ (c-seen-all .ensures) (c-white .given .1) in
+    let m = c-to-black .kept .1 .0 ∙ c-pre .0 .colours in
+    mark-done (c-args .r) (c-args .words .now) (c-args .colours .now) (c-args .bytes .now) _ (part-is _ _) m s (c-to-black .ensures)
+    (c-grey-all .ensures ∙ greyed-as _ (c-args .colours .now) _ _ _ _ (c-args .r .grey) _ m q (omega arith) (c-to-black .ensures)) (c .with-grey .ensures)
 
 pub mark-spec : {M : Type 1} → statement M
 mark-spec =
@@ -127,22 +114,17 @@ mark-spec =
     part-seen-all-start
     part-seen-all-end
     seen-all-requires
+    enum-known-white
     enum-told
+    same-length
+    returns
     to-black-requires
-    with-grey-requires
-    enum-told-2
-    to-black-requires-2
     add-grey-all
     mul-grey-all
     sub-grey-all
     part-grey-all-start
     part-grey-all-end
     grey-all-requires
-    with-grey-requires-2
-    enum-told-3
-    same-length
-    returns
+    with-grey-requires
     same-length-2
-    returns-2
-    same-length-3
-    returns-3)
+    returns-2)

@@ -1,32 +1,45 @@
--- `part_mark::seen_all` meets its contract: what was seen is what remains to be seen. Assumes nothing.
-use Prim.Native.Nat.{_-_, _/_, _^_, _≤_}
+-- `part_mark::seen_all` meets its contract: what is to come, with what was gathered, is what was to come. Assumes nothing.
+use Prim.Native.Nat.{ℕ, _+_, _<_}
 use mathlib.Core.Path.{_≡_, refl, sym, _∙_}
 use mathlib.Core.Logic.{⊎-elim}
-use mathlib.Core.Bool.{false}
 use native.Mathlib.Omega.{arith}
-use Rattle.machine.specs.Block.{references}
-use Rattle.machine.specs.Seen.{seenAll}
-use Rattle.machine.proofs.Marking.{from, rest-first, rest-next, rest-within, references-none, seen-on, seen-end}
+use Rattle.machine.proofs.LowestBit.{lowest-within, lowest-le, lowest-shift, lowest-sub, lowest-less}
+use Rattle.part_mark.proofs.Whites.{toCome, come-first, come-settled, come-white, come-damaged, come-end}
 use borrow.Author.Needs.{needs}
 use Rattle.part_mark.proofs.seen_all.Statement.{statement}
 use Rattle.part_mark.proofs.seen_all.Tie as tie
 
 abbrev Inv-loop : tie.InvT-loop
-Inv-loop m colours part byte rest₀ w₀ white₀ rest w white =
-    (w ≤ 8) × (rest ≡ byte / 2 ^ w) × (seenAll false m colours (references part byte) ≡ seenAll white m colours (from part byte w))
+Inv-loop m colours part byte rest₀ white₀ rest white = (rest < 256) × (white + rest < 256) × (toCome m colours part 0 byte ≡ toCome m colours part white rest)
 
 abbrev μ-loop : tie.MeasureT-loop
-μ-loop m colours part byte rest₀ w₀ white₀ rest w white = 8 - w
+μ-loop m colours part byte rest₀ white₀ rest white = rest
 
 loop-holds : tie.Need-loop-holds Inv-loop μ-loop
-loop-holds c = (omega arith, rest-first (c .before .before .args .part .now) _, refl)
+loop-holds c = let f = c .before .before .fits .byte .fits in (f, omega arith, refl)
 
-seen-word-requires : tie.Need-seen-word-requires Inv-loop μ-loop
-seen-word-requires c κs =
-    let c-pre = c .before .before .before .before .pre in
-    let c-args = c .before .before .before .before .args in
-    let c-fits = c .before .before .before .before .fits in
-    (c-pre .0, c-pre .1, c-pre .2, rest-within (c-args .part .now) _ _ _ (c .before .loop .inv .1) (c-fits .byte .fits) (c .before .loop .inv .0) (c .loop-test .taken))
+shl-bit : tie.Need-shl-bit Inv-loop μ-loop
+shl-bit c =
+    let c-loop = c .before .loop in
+    let l = lowest-within _ _ (c-loop .inv .0) (c .loop-test .taken) refl in omega arith
+
+cast-seen : tie.Need-cast-seen Inv-loop μ-loop
+cast-seen c =
+    let c-loop = c .before .loop in
+    let l = lowest-within _ _ (c-loop .inv .0) (c .loop-test .taken) refl in search needs
+
+mul-seen : tie.Need-mul-seen Inv-loop μ-loop
+mul-seen c =
+    let c-loop = c .before .loop in
+    let l = lowest-within _ _ (c-loop .inv .0) (c .loop-test .taken) refl in search needs
+
+shared-slice-read-seen : tie.Need-shared-slice-read-seen Inv-loop μ-loop
+shared-slice-read-seen c =
+    let c-loop = c .before .before .loop in
+    let l = lowest-within _ _ (c-loop .inv .0) (c .before .loop-test .taken) refl in search needs
+
+seen-requires : tie.Need-seen-requires Inv-loop μ-loop
+seen-requires c κs = let c-pre = c .before .before .before .before .before .pre in (c-pre .0, c-pre .1)
 
 enum-told : tie.Need-enum-told Inv-loop μ-loop
 enum-told c = search needs
@@ -34,41 +47,50 @@ enum-told c = search needs
 enum-told-2 : tie.Need-enum-told-2 Inv-loop μ-loop
 enum-told-2 c = search needs
 
+add-white : tie.Need-add-white Inv-loop μ-loop
+add-white c =
+    let c-loop = c .before .before .before .before .before .loop in
+    let b = c-loop .inv .1 in
+    let l = lowest-sub _ _ (c-loop .inv .0) (c .before .before .before .before .loop-test .taken) refl in search needs
+
 enum-told-3 : tie.Need-enum-told-3 Inv-loop μ-loop
 enum-told-3 c = search needs
 
 returns : tie.Need-returns Inv-loop μ-loop
 returns c =
-    let c-loop = c .before .before .before .before .loop in
-    let c-args = c .before .before .before .before .before .before .before .args in
-    let c-fits = c .before .before .before .before .before .before .before .fits in
-    sym (c-loop .inv .2 ∙ seen-on _ _ _ _ (c-loop .inv .1) (rest-within (c-args .part .now) _ _ _ (c-loop .inv .1) (c-fits .byte .fits) (c-loop .inv .0) (c .before .before .before .loop-test .taken)) _ _ _ (c .before .before .seen-word .ensures) ∙ rw (c .enum-told3 .given .1) refl)
+    let c-loop = c .before .before .before .before .before .loop in
+    let c-args = c .before .before .before .before .before .before .before .before .args in
+    come-damaged _ (c-args .colours .now) (c-args .part .now) _ _ (c-loop .inv .0) (c .before .before .before .before .loop-test .taken) refl _ (c .before .before .seen .ensures) (c-loop .white) (c .enum-told3 .given .1)
+    ∙ sym (come-first _ (c-args .colours .now) (c-args .part .now) (c-args .byte) ∙ c-loop .inv .2)
 
-add-w : tie.Need-add-w Inv-loop μ-loop
-add-w c =
-    let c-args = c .before .before .before .before .before .before .args in
-    let c-fits = c .before .before .before .before .before .before .fits in
-    let l = rest-within (c-args .part .now) _ _ _ (c .before .before .before .loop .inv .1) (c-fits .byte .fits) (c .before .before .before .loop .inv .0) (c .before .before .loop-test .taken) in omega arith
+sub-rest : tie.Need-sub-rest Inv-loop μ-loop
+sub-rest c =
+    let c-loop = c .before .before .before .before .loop in
+    lowest-sub _ _ (c-loop .inv .0) (c .before .before .before .loop-test .taken) refl
 
 loop-less : tie.Need-loop-less Inv-loop μ-loop
 loop-less c =
-    let c-args = c .before .before .before .before .before .before .args in
-    let c-fits = c .before .before .before .before .before .before .fits in
-    let l = rest-within (c-args .part .now) _ _ _ (c .before .before .before .loop .inv .1) (c-fits .byte .fits) (c .before .before .before .loop .inv .0) (c .before .before .loop-test .taken) in omega arith
+    let c-loop = c .before .before .before .before .loop in
+    lowest-less _ _ (c-loop .inv .0) (c .before .before .before .loop-test .taken) refl
 
 loop-again : tie.Need-loop-again Inv-loop μ-loop
 loop-again c =
-    let c-args = c .before .before .before .before .before .before .args in
-    let c-fits = c .before .before .before .before .before .before .fits in
-    let l = rest-within (c-args .part .now) _ _ _ (c .before .before .before .loop .inv .1) (c-fits .byte .fits) (c .before .before .before .loop .inv .0) (c .before .before .loop-test .taken) in
-    let on = c .before .before .before .loop .inv .2 ∙ seen-on _ _ _ _ (c .before .before .before .loop .inv .1) l _ _ _ (c .before .seen-word .ensures) in
-    (omega arith, rest-next (c-args .part .now) _ _ _ (c .before .before .before .loop .inv .1), ⊎-elim (λ k. rw (k .2) (on ∙ rw (k .1 .given .1) refl)) (λ k. rw (k .2) (on ∙ rw (k .1 .given .1) refl)) (c .match .came))
+    let c-loop = c .before .before .before .before .loop in
+    let c-args = c .before .before .before .before .before .before .before .args in
+    let c-seen = c .before .seen in
+    let b = c-loop .inv .1 in
+    let n = c .before .before .before .loop-test .taken in
+    let l = lowest-sub _ _ (c-loop .inv .0) n refl in
+    ⊎-elim
+    (λ k. rw (k .2) (omega arith, omega arith, c-loop .inv .2 ∙ come-settled _ (c-args .colours .now) (c-args .part .now) _ _ (c-loop .inv .0) n refl _ (c-seen .ensures) (c-loop .white) (k .1 .given .1)))
+    (λ k. rw (k .2) (omega arith, omega arith, c-loop .inv .2 ∙ come-white _ (c-args .colours .now) (c-args .part .now) _ _ (c-loop .inv .0) n refl _ (c-seen .ensures) (c-loop .white) (k .1 .given .1)))
+    (c .match .came)
 
 returns-2 : tie.Need-returns-2 Inv-loop μ-loop
-returns-2 c = sym (c .before .before .loop .inv .2 ∙ seen-end _ _ _ _ _ _ (references-none _ _ _ _ (c .before .before .loop .inv .1) (c .before .loop-test .left)) ∙ rw (c .if1 .taken) refl)
-
-returns-3 : tie.Need-returns-3 Inv-loop μ-loop
-returns-3 c = sym (c .before .before .loop .inv .2 ∙ seen-end _ _ _ _ _ _ (references-none _ _ _ _ (c .before .before .loop .inv .1) (c .before .loop-test .left)) ∙ rw (c .if1 .left) refl)
+returns-2 c =
+    let c-loop = c .before .loop in
+    let c-args = c .before .before .before .before .args in
+    come-end _ (c-args .colours .now) (c-args .part .now) _ _ (c .loop-test .left) ∙ sym (come-first _ (c-args .colours .now) (c-args .part .now) (c-args .byte) ∙ c-loop .inv .2)
 
 pub seen-all-spec : {M : Type 1} → statement M
 seen-all-spec =
@@ -77,13 +99,17 @@ seen-all-spec =
     Inv-loop
     μ-loop
     loop-holds
-    seen-word-requires
+    shl-bit
+    cast-seen
+    mul-seen
+    shared-slice-read-seen
+    seen-requires
     enum-told
     enum-told-2
+    add-white
     enum-told-3
     returns
-    add-w
+    sub-rest
     loop-less
     loop-again
-    returns-2
-    returns-3)
+    returns-2)

@@ -1,73 +1,71 @@
 -- `part_names::may_name_all` meets its contract: the words passed may hold what they hold, and the test of the others is still to come. Assumes nothing.
-use Prim.Native.Nat.{_-_, _/_, _^_, _≤_}
-use mathlib.Core.Path.{_≡_, refl}
+use Prim.Native.Nat.{_<_}
+use mathlib.Core.Path.{_≡_, refl, sym, _∙_}
 use native.Mathlib.Omega.{arith}
-use Rattle.machine.specs.Block.{references, referencesFrom}
+use Rattle.machine.specs.Block.{references}
 use Rattle.machine.specs.Audit.{mayNameAll}
 use Rattle.machine.proofs.Tests.{so}
-use Rattle.machine.proofs.Marking.{rest-first, rest-bit, rest-next, rest-within, references-none}
+use Rattle.machine.proofs.LowestBit.{lowest-within, lowest-sub, lowest-less}
 use Rattle.machine.proofs.References.{names-on, names-off, names-end}
 use borrow.Author.Needs.{needs}
 use Rattle.part_names.proofs.may_name_all.Statement.{statement}
 use Rattle.part_names.proofs.may_name_all.Tie as tie
 
 abbrev Inv-loop : tie.InvT-loop
-Inv-loop r colours strict part byte rest₀ w₀ rest w =
-    (w ≤ 8) × (rest ≡ byte / 2 ^ w) × (mayNameAll r colours strict (references part byte) ≡ mayNameAll r colours strict (referencesFrom (8 - w) w part byte))
+Inv-loop r colours strict part byte rest₀ rest =
+    (rest < 256) × (mayNameAll r colours strict (references part byte) ≡ mayNameAll r colours strict (references part rest))
 
 abbrev μ-loop : tie.MeasureT-loop
-μ-loop r colours strict part byte rest₀ w₀ rest w = 8 - w
+μ-loop r colours strict part byte rest₀ rest = rest
 
 loop-holds : tie.Need-loop-holds Inv-loop μ-loop
-loop-holds c = (omega arith, rest-first (c .before .before .args .part .now) _, refl)
+loop-holds c = (c .before .before .fits .byte .fits, refl)
 
-mul-word-passes : tie.Need-mul-word-passes Inv-loop μ-loop
-mul-word-passes c =
-    let c-args = c .before .before .before .before .args in
-    let c-fits = c .before .before .before .before .fits in
-    let l = rest-within (c-args .part .now) _ _ _ (c .before .loop .inv .1) (c-fits .byte .fits) (c .before .loop .inv .0) (c .loop-test .taken) in search needs
+cast-may-name : tie.Need-cast-may-name Inv-loop μ-loop
+cast-may-name c = let l = lowest-within _ _ (c .before .loop .inv .0) (c .loop-test .taken) refl in search needs
 
-shared-slice-read-word-passes : tie.Need-shared-slice-read-word-passes Inv-loop μ-loop
-shared-slice-read-word-passes c =
-    let c-args = c .before .before .before .before .before .args in
-    let c-fits = c .before .before .before .before .before .fits in
-    let l = rest-within (c-args .part .now) _ _ _ (c .before .before .loop .inv .1) (c-fits .byte .fits) (c .before .before .loop .inv .0) (c .before .loop-test .taken) in search needs
+mul-may-name : tie.Need-mul-may-name Inv-loop μ-loop
+mul-may-name c = let l = lowest-within _ _ (c .before .loop .inv .0) (c .loop-test .taken) refl in search needs
 
-word-passes-requires : tie.Need-word-passes-requires Inv-loop μ-loop
-word-passes-requires c κs = search needs
+shared-slice-read-may-name : tie.Need-shared-slice-read-may-name Inv-loop μ-loop
+shared-slice-read-may-name c =
+    let l = lowest-within _ _ (c .before .before .loop .inv .0) (c .before .loop-test .taken) refl in search needs
 
-add-w : tie.Need-add-w Inv-loop μ-loop
-add-w c =
-    let c-args = c .before .before .before .before .before .before .before .args in
+may-name-requires : tie.Need-may-name-requires Inv-loop μ-loop
+may-name-requires c κs = let c-pre = c .before .before .before .before .before .pre in (c-pre .0, c-pre .1)
+
+shl-rest : tie.Need-shl-rest Inv-loop μ-loop
+shl-rest c =
     let c-loop = c .before .before .before .before .loop in
-    let c-fits = c .before .before .before .before .before .before .before .fits in
-    let l = rest-within (c-args .part .now) _ _ _ (c-loop .inv .1) (c-fits .byte .fits) (c-loop .inv .0) (c .before .before .before .loop-test .taken) in search needs
+    let l = lowest-within _ _ (c-loop .inv .0) (c .before .before .before .loop-test .taken) refl in omega arith
+
+sub-rest : tie.Need-sub-rest Inv-loop μ-loop
+sub-rest c =
+    let c-loop = c .before .before .before .before .loop in
+    lowest-sub _ _ (c-loop .inv .0) (c .before .before .before .loop-test .taken) refl
 
 loop-less : tie.Need-loop-less Inv-loop μ-loop
 loop-less c =
-    let c-args = c .before .before .before .before .before .before .before .args in
     let c-loop = c .before .before .before .before .loop in
-    let c-fits = c .before .before .before .before .before .before .before .fits in
-    let l = rest-within (c-args .part .now) _ _ _ (c-loop .inv .1) (c-fits .byte .fits) (c-loop .inv .0) (c .before .before .before .loop-test .taken) in omega arith
+    lowest-less _ _ (c-loop .inv .0) (c .before .before .before .loop-test .taken) refl
 
 loop-again : tie.Need-loop-again Inv-loop μ-loop
 loop-again c =
     let c-args = c .before .before .before .before .before .before .before .args in
     let c-loop = c .before .before .before .before .loop in
-    let c-fits = c .before .before .before .before .before .before .before .fits in
-    let l = rest-within (c-args .part .now) _ _ _ (c-loop .inv .1) (c-fits .byte .fits) (c-loop .inv .0) (c .before .before .before .loop-test .taken) in
-    (omega arith, rest-next (c-args .part .now) _ _ _ (c-loop .inv .1), names-on _ _ _ _ _ _ _ _ (c-loop .inv .2) _ _ (omega arith) (rest-bit (c-args .part .now) _ _ _ (c-loop .inv .1)) (so (c .before .word-passes .ensures) (c .if1 .taken)))
+    let n = c .before .before .before .loop-test .taken in
+    let l = lowest-less _ _ (c-loop .inv .0) n refl in
+    (omega arith, c-loop .inv .1 ∙ names-on (c-args .r) (c-args .colours .now) (c-args .strict) (c-args .part .now) _ _ (c-loop .inv .0) n refl (so (c .before .may-name .ensures) (c .if1 .taken)))
 
 returns : tie.Need-returns Inv-loop μ-loop
 returns c =
     let c-args = c .before .before .before .before .before .before .before .args in
     let c-loop = c .before .before .before .before .loop in
-    let c-fits = c .before .before .before .before .before .before .before .fits in
-    let l = rest-within (c-args .part .now) _ _ _ (c-loop .inv .1) (c-fits .byte .fits) (c-loop .inv .0) (c .before .before .before .loop-test .taken) in
-    names-off _ _ _ _ _ _ _ _ (c-loop .inv .2) (7 - c-loop .w) _ (omega arith) (rest-bit (c-args .part .now) _ _ _ (c-loop .inv .1)) (so (c .before .word-passes .ensures) (c .if1 .left))
+    let n = c .before .before .before .loop-test .taken in
+    sym (c-loop .inv .1 ∙ names-off (c-args .r) (c-args .colours .now) (c-args .strict) (c-args .part .now) _ _ (c-loop .inv .0) n refl (so (c .before .may-name .ensures) (c .if1 .left)))
 
 returns-2 : tie.Need-returns-2 Inv-loop μ-loop
-returns-2 c = names-end _ _ _ _ _ _ _ _ (c .before .loop .inv .2) (references-none _ _ _ _ (c .before .loop .inv .1) (c .loop-test .left))
+returns-2 c = let c-args = c .before .before .before .before .args in sym (c .before .loop .inv .1 ∙ names-end (c-args .r) (c-args .colours .now) (c-args .strict) (c-args .part .now) _ (c .loop-test .left))
 
 pub may-name-all-spec : {M : Type 1} → statement M
 may-name-all-spec =
@@ -76,10 +74,12 @@ may-name-all-spec =
     Inv-loop
     μ-loop
     loop-holds
-    mul-word-passes
-    shared-slice-read-word-passes
-    word-passes-requires
-    add-w
+    cast-may-name
+    mul-may-name
+    shared-slice-read-may-name
+    may-name-requires
+    shl-rest
+    sub-rest
     loop-less
     loop-again
     returns

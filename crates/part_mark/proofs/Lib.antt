@@ -1,0 +1,2 @@
+-- Laws of the two passes over a block's references.
+pub mod Whites
