@@ -224,7 +224,8 @@ static uint32_t units_due(const struct plain_regs *r)
 {
     if (r->pace != 0)
         return r->pace;
-    return 2 * (r->blocks / (r->count == 0 ? 1 : r->count));
+    uint32_t free = r->count == 0 ? 1 : r->count;
+    return 2 * ((r->blocks + free - 1) / free);
 }
 
 /* 7 or 8 where no block can be taken, else 0. */

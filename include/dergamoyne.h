@@ -120,8 +120,8 @@
 #include <stdint.h>
 
 /* The version: 1,000,000 for each major, 1,000 for each minor, 1 for each patch. */
-#define DERGAMOYNE_VERSION 3000u
-#define DERGAMOYNE_VERSION_TEXT "0.3.0"
+#define DERGAMOYNE_VERSION 3002u
+#define DERGAMOYNE_VERSION_TEXT "0.3.2"
 
 /* Marks a function whose answer must not be ignored: the compiler warns if it is. */
 #ifndef DERGAMOYNE_MUST_USE

@@ -86,11 +86,11 @@ def units_and_holder():
 
 
 def pace_0():
-    """M/F rounded down and doubled, times n; F is the count at entry."""
-    for count, units in [(6, 2), (4, 2), (3, 4), (2, 6)]:
+    """M/F rounded up and doubled, times n; F is the count at entry."""
+    for count, units in [(6, 2), (5, 4), (4, 4), (3, 4), (2, 6)]:
         h = but(idle(), U=0, free_count=count)
         yield "pace 0", CHAIN, (2, 0, 2), h, (0, 4, 2 * units)
-    yield "pace 0, fewer than n are free", CHAIN, (2, 0, 5), but(idle(), U=0), (7, 0, 10)
+    yield "pace 0, fewer than n are free", CHAIN, (2, 0, 5), but(idle(), U=0), (7, 0, 20)
     h = but(dropped(), U=0, free_count=3)
     yield "pace 0 is worked out once, at entry", CHAIN, (0, 0, 3), h, (0, 3, 12)
     empty = {"free_head": 0, "free_count": 0}

@@ -73,7 +73,7 @@ def hand_checked_cases():
     equal(h.phase, 2, "case 9 phase")
     h = formatted(3, 0)
     equal(machine.allocate(h, 0, 0)[2], 2, "pace 0, free count 3")
-    equal(machine.allocate(h, 2, 0), (0, 3, 2), "case 10, free count 2")
+    equal(machine.allocate(h, 2, 0), (0, 3, 4), "case 10, free count 2")
     equal(machine.allocate(h, 3, 0), (0, 4, 6), "pace 0, free count 1")
     equal(machine.allocate(h, 4, 0), (7, 0, 6), "case 10, free count 0")
     equal(machine.format(machine.empty_heap(0), 0, 1), (1, 0, 0), "case 11, M 0")

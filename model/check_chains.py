@@ -133,7 +133,7 @@ def watched_chain(h, block, word, n, log):
     before = machine.copy(h)
     what = f"allocate chain {block} {word} {n}"
     no, value, units = chains.allocate_chain(h, block, word, n)
-    each = before.U or 2 * (before.M // max(before.free_count, 1))
+    each = before.U or 2 * -(-before.M // max(before.free_count, 1))
     need(units == (0 if no == 3 else n * each), f"{units} units: {what}", before)
     watched = machine.copy(before)
     check.watched_units(watched, units, log)

@@ -204,7 +204,7 @@ def refused_in_allocation():
     yield "the holder is doomed by the units", "A", (3, 1), but(garbage(), U=3), (5, 0, 3)
     yield "the holder is freed by the units", "A", (3, 1), but(garbage(), U=5), (5, 0, 5)
     yield "the first free block is the one just freed", "A", (2, 1), but(garbage(), U=5), (0, 3, 5)
-    for count, units in [(4, 2), (3, 2), (2, 4), (1, 8)]:
+    for count, units in [(4, 2), (3, 4), (2, 4), (1, 8)]:
         yield "pace 0", "A", (2, 1), but(idle(), U=0, free_count=count), (0, 5, units)
     yield "pace 0, free count 0 counted as 1", "A", (2, 1), but(idle(), U=0, **empty), (7, 0, 8)
     yield "pace 0, free count 0 counted as 1", "A", (2, 1), but(idle(), U=0, free_count=0), (8, 0, 8)

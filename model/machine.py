@@ -343,9 +343,13 @@ def set_root(h, target):
 
 
 def units_of_allocation(h):
-    """U, or if U is 0, M/F rounded down and then doubled, F being the free
-    count at entry, 0 counted as 1."""
-    return h.U if h.U != 0 else h.M // max(h.free_count, 1) * 2
+    """U, or if U is 0, M/F rounded up and then doubled, F being the free count
+    at entry, 0 counted as 1: document 01 as request L3 changes it."""
+    if h.U != 0:
+        return h.U
+    free = max(h.free_count, 1)
+    whole, rest = divmod(h.M, free)
+    return 2 * (whole + (1 if rest else 0))
 
 
 def colour_of_new(h, block):

@@ -34,7 +34,7 @@ pub struct LookAnswer {
 pub extern "C" fn dergamoyne_version() -> u32
     ensures { λ n. ⌜ n ≡ version ⌝ }
 {
-    3000
+    3002
 }
 
 // How many bytes a register record takes in memory.

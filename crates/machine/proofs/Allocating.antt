@@ -10,7 +10,7 @@
 --     damaged-ends, undamaged           units that met damage, and units that met none
 --     allocate-refused, allocate-off, allocate-goes     the call
 -- Assumes nothing.
-use Prim.Native.Nat.{ℕ, _-_, _*_, _/_, max, _≤_, _<_}
+use Prim.Native.Nat.{ℕ, _-_, _*_, max, _≤_, _<_}
 use mathlib.Core.Path.{_≡_, refl, sym, _∙_, ap}
 use mathlib.Core.Logic.{_≢_}
 use mathlib.Core.Bool.{Bool, true, false}
@@ -22,6 +22,7 @@ use borrow.Author.Tests.{eq-eqb, ne-eqb, le-leb, lt-leb}
 use Rattle.machine.specs.declared.Regs.{Regs}
 use Rattle.machine.specs.declared.Colour.{Colour}
 use Rattle.machine.specs.Tests.{_▷_}
+use Rattle.machine.specs.Rounding.{roundedUp}
 use Rattle.machine.specs.Registers.{marking, sweeping, withFree, withCount, withRoot}
 use Rattle.machine.specs.Block.{base}
 use Rattle.machine.specs.Colouring.{white, black, freeColour, colour, colourWord, paint}
@@ -48,7 +49,7 @@ module _ (r : Regs) where
   unfolding unitsDue
   due-none p z = simp (eq-eqb (r .pace) 0 p) (rw z (omega arith))
 
-  pub due-share : r .pace ≡ 0 → r .count ≢ 0 → 2 * (r .blocks / r .count) ≡ unitsDue r
+  pub due-share : r .pace ≡ 0 → r .count ≢ 0 → 2 * roundedUp (r .blocks) (r .count) ≡ unitsDue r
   unfolding unitsDue
   due-share p n =
       let e : max 1 (r .count) ≡ r .count = omega arith in

@@ -11,7 +11,6 @@ use mathlib.Core.Path.{_≡_, refl, sym, _∙_, ap}
 use mathlib.Core.Logic.{_≢_}
 use mathlib.Core.Bool.{Bool, true, false, _&&_}
 use mathlib.Core.List.{List}
-use native.Mathlib.Nat.{div-le-self}
 use native.Mathlib.Omega.{arith}
 use lib.Dec.{leb, eqb}
 use lib.ListN.{getD}
@@ -27,6 +26,7 @@ use Rattle.machine.specs.Allocate.{unitsDue}
 use Rattle.machine.specs.Several.{nulled, zeroed, filled, firstFrees, holderOf, byWord, severalTaken}
 use Rattle.machine.specs.Chain.{link, chain, chainLength, allocateChain}
 use Rattle.machine.proofs.Tests.{both-true, if-ind}
+use Rattle.machine.proofs.Rounding.{round-most}
 use Rattle.machine.proofs.Entering.{first-zero, choose-zero}
 use Rattle.machine.proofs.Refusals.{stops, passes}
 use Rattle.machine.proofs.Storing.{unless-stops, unless-passes}
@@ -81,7 +81,7 @@ pub due-most : (r : Regs) → r .blocks ≤ 16384 → r .pace ≤ 65535 → unit
 unfolding unitsDue
 due-most r m p =
     if-ind (λ (x : ℕ). x ≤ 65535) (eqb (r .pace) 0)
-    (λ e. omega (arith, div-le-self (r .blocks) (max 1 (r .count))))
+    (λ e. omega (arith, round-most (r .blocks) (max 1 (r .count)) (omega arith)))
     (λ e. p)
 
 module _ (h : Heap) (b w n : ℕ) {g : Given} {e : ℕ} where

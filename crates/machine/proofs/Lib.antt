@@ -1,5 +1,6 @@
 -- What is proved of the machine's definitions alone.
 pub mod Tests
+pub mod Rounding
 pub mod Blocks
 pub mod Lists
 pub mod Entering

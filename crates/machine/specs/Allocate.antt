@@ -6,12 +6,13 @@
 --     held b w x h         the reference to x stored: in word w of b, or in the root where b is 0
 --     allocate b w h       the call
 -- Assumes nothing.
-use Prim.Native.Nat.{ℕ, _-_, _*_, _/_, max}
+use Prim.Native.Nat.{ℕ, _-_, _*_, max}
 use mathlib.Core.Bool.{Bool, _&&_, _||_}
 use lib.Dec.{eqb, leb}
 use lib.ListN.{set}
 use Rattle.machine.specs.declared.Regs.{Regs}
 use Rattle.machine.specs.Tests.{if_then_else_, _▷_}
+use Rattle.machine.specs.Rounding.{roundedUp}
 use Rattle.machine.specs.Registers.{marking, sweeping, withFree, withCount, withRoot}
 use Rattle.machine.specs.Block.{place, wordOf}
 use Rattle.machine.specs.Colouring.{white, black, freeColour, paint}
@@ -22,9 +23,9 @@ use Rattle.machine.specs.Answers.{Given, answering, unless}
 use Rattle.machine.specs.Units.{RunEnd, run}
 use Rattle.machine.specs.Store.{putReference}
 
--- "Units: U, or if U is 0, M/F rounded down and then doubled, F being the free count at entry, 0 counted as 1."
+-- "Units: U, or if U is 0, M/F .. doubled, F being the free count at entry, 0 counted as 1." "P is to be rounded up before it is doubled"
 unfoldable pub unitsDue : Regs → ℕ
-unitsDue r = if eqb (r .pace) 0 then 2 * (r .blocks / max 1 (r .count)) else r .pace
+unitsDue r = if eqb (r .pace) 0 then 2 * roundedUp (r .blocks) (max 1 (r .count)) else r .pace
 
 -- 8: "a first free block not coloured free or whose link is no block and not 0"
 unfoldable pub firstFits : Heap → Bool

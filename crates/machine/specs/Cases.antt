@@ -105,8 +105,8 @@ table =
     (0 ∷ 0 ∷ 0 ∷ 1 ∷ 3 ∷ [])
     -- 9. Format(1, 1), Allocate at root, Allocate at (2, 0): 7 with 1 unit, phase 2.
     ∷ on 1 (Format 1 1 ∷ Allocate 0 0 ∷ []) (Allocate 2 0) (λ g. answer g ++ regs g .phase ∷ []) (7 ∷ 0 ∷ 1 ∷ 2 ∷ [])
-    -- 10. M = 3, U = 0, free count 2: 2 units. Free count 0: 6 units.
-    ∷ on 3 (Format 3 0 ∷ Allocate 0 0 ∷ []) (Allocate 2 0) units (2 ∷ [])
+    -- 10. M = 3, U = 0, free count 2: 4 units. Free count 0: 6 units.
+    ∷ on 3 (Format 3 0 ∷ Allocate 0 0 ∷ []) (Allocate 2 0) units (4 ∷ [])
     ∷ on 3 (Format 3 0 ∷ Allocate 0 0 ∷ Allocate 2 0 ∷ Allocate 3 0 ∷ []) (Allocate 4 0) units (6 ∷ [])
     ∷ []
 

@@ -1,6 +1,7 @@
 -- The machine of document 01, one notion a file. Read in this order.
 -- Ready and Seen are not of document 01: they say what parts of the code leave to each other.
 pub mod Tests
+pub mod Rounding
 pub mod Registers
 pub mod Block
 pub mod Colouring

@@ -123,9 +123,9 @@ pub fn run(r: Regs, words: &mut [u32], colours: &mut [u32], bytes: &mut [u8], n:
     }
 }
 
-// The units that an allocation does first: the pace, or at pace 0 twice M / F, F being the free count, 0 counted as 1.
+// The units that an allocation does first: the pace, or at pace 0 twice M / F rounded up, F being the free count, 0 counted as 1.
 pub fn units_due(r: Regs) -> u32
-    requires { ⌜ r .blocks ≤ 16384 ⌝ }
+    requires { ⌜ (r .blocks ≤ 16384) × (r .count ≤ r .blocks) ⌝ }
     ensures { λ n. ⌜ n ≡ unitsDue r ⌝ }
 {
     if r.pace != 0 {
@@ -134,5 +134,5 @@ pub fn units_due(r: Regs) -> u32
     if r.count == 0 {
         return 2 * r.blocks;
     }
-    2 * (r.blocks / r.count)
+    2 * ((r.blocks + (r.count - 1)) / r.count)
 }

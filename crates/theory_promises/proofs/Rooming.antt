@@ -8,11 +8,11 @@
 --     each-one                 every call but a chain of two blocks or more asks for one block at most
 --     room-enough, margin      the promises, with B = 1
 -- Assumes nothing.
-use Prim.Native.Nat.{ℕ, _+_, _-_, _*_, _/_, _≤_}
+use Prim.Native.Nat.{ℕ, _+_, _-_, _*_, _≤_}
 use mathlib.Core.Path.{_≡_, refl, sym, _∙_, ap, subst}
 use mathlib.Core.Logic.{_≢_}
 use mathlib.Core.List.{List, [], _∷_, _++_, map}
-use native.Mathlib.Nat.{div-add-mod, mod-lt, mul-le-mul-right}
+use native.Mathlib.Nat.{mul-le-mul-right}
 use native.Mathlib.Omega.{arith}
 use lib.ListN.{replicate}
 use borrow.Author.Tests.{ne-eqb}
@@ -25,6 +25,7 @@ use Rattle.machine.specs.Session.{Call, does, session}
 use Rattle.machine.specs.Session.Call.{Format, Read, Look, StoreNumber, StoreReference, SetRoot, Allocate, Work, Audit}
 use Rattle.machine.specs.Session.Call.{AllocateChain, ReadField, StoreFieldNumber, StoreFieldReference}
 use Rattle.machine.proofs.Tests.{by-eq}
+use Rattle.machine.proofs.Rounding.{round-enough}
 use Rattle.theory_moves.specs.Heaps.{Sound}
 use Rattle.theory_moves.specs.Runs.{units}
 use Rattle.theory_moves.specs.Demand3.{unused, Event, Session, over, next, Settled}
@@ -45,13 +46,9 @@ use Rattle.theory_promises.proofs.Planning.{after-append}
 use Rattle.theory_promises.proofs.Calls.{known, calls-are-deeds, deeds-allowed}
 use Rattle.theory_promises.proofs.Courses.{deeds-run, call-formed}
 
--- a quotient rounded up, times the divisor
-round-up : (x u : ℕ) → 1 ≤ u → x ≤ u * ((x + (u - 1)) / u)
-round-up x u l = omega (arith, div-add-mod (x + (u - 1)) u, mod-lt (x + (u - 1)) {m = u} l)
-
 pub cycles-enough : (m u : ℕ) → 1 ≤ u → 2 * m + 2 ≤ u * cycles m u
 unfolding cycles
-cycles-enough m u l = round-up (2 * m + 2) u l
+cycles-enough m u l = round-enough (2 * m + 2) u l
 
 -- a pace of units is due for a block
 due-pace : (r : Regs) → r .pace ≤ unitsDue r

@@ -14,11 +14,12 @@
 -- A fresh heap is `formatted m u`. Sessions are any calls with any arguments, refused ones among them, without a further Format that
 -- answers 0. RoomEnough and Margin are the case B = 1, which is that of document 01.
 -- Assumes nothing.
-use Prim.Native.Nat.{ℕ, _+_, _-_, _*_, _/_, _≤_}
+use Prim.Native.Nat.{ℕ, _+_, _-_, _*_, _≤_}
 use mathlib.Core.Path.{_≡_}
 use mathlib.Core.Logic.{_≢_}
 use mathlib.Core.List.{List, [], _∷_, _++_, List·Memᴰ}
 use lib.ListN.{length}
+use Rattle.machine.specs.Rounding.{roundedUp}
 use Rattle.machine.specs.Registers.{idle}
 use Rattle.machine.specs.Colouring.{isAllocated}
 use Rattle.machine.specs.Heap.{Heap}
@@ -49,7 +50,7 @@ pub record CycleShort : Type 0 where
       → unitsIn (aUnit ∷ ys) ≡ 2 + marksIn ys (deed aUnit (after xs h)) + h .regs .blocks
 
 unfoldable pub cycles : ℕ → ℕ → ℕ
-cycles m u = (2 * m + 2 + (u - 1)) / u
+cycles m u = roundedUp (2 * m + 2) u
 
 pub record Few (k : ℕ) (h : Heap) : Type 0 where
   pub list : List ℕ

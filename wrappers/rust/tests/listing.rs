@@ -187,6 +187,6 @@ fn threads() {
 /// The library is the one that the crate is for.
 #[test]
 fn version() {
-    assert_eq!(calls::version(), 3000);
+    assert_eq!(calls::version(), 3002);
     assert!(calls::fits_library());
 }

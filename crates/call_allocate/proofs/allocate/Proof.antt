@@ -53,7 +53,8 @@ units-due-requires : tie.Need-units-due-requires
 units-due-requires c κs =
     let c-entry = c .before .before .before .before .before .before .entry in
     let c-if1 = c .before .before .before .before .before .if1 in
-    entry-ready _ (sym (c-entry .ensures) ∙ c-if1 .left) .most
+    let d = entry-ready _ (sym (c-entry .ensures) ∙ c-if1 .left) in
+    (d .most, d .count)
 
 run-requires : tie.Need-run-requires
 run-requires c κs =
