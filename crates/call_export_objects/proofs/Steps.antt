@@ -18,7 +18,7 @@ use lib.Dec.{leb, ltb}
 use lib.ListN.{length}
 use borrow.Author.Tests.{eq-eqb, ne-eqb, leb-true, leb-false, ltb-true, le-leb, lt-leb, lt-ltb, le-ltb}
 use Rattle.machine.specs.Tests.{_▷_}
-use Rattle.machine.specs.Block.{isBlock, wordOf, byteOf, bit}
+use Rattle.machine.specs.Block.{wordOf, byteOf, bit}
 use Rattle.machine.specs.Heap.{Heap}
 use Rattle.machine.specs.Entry.{entry}
 use Rattle.machine.specs.Read.{readAnswer, readRefused}
@@ -34,7 +34,7 @@ use Rattle.part_rows.specs.declared.Reason.the-variants.{Refused, NoReference}
 use Rattle.part_rows.specs.declared.Followed.{Followed}
 use Rattle.part_rows.specs.declared.Followed.the-variants.{To, Nowhere}
 use Rattle.part_rows.specs.Shape.{Sound}
-use Rattle.part_rows.specs.Rows.{ExportGiven, followed, lead, stopped, exportRows}
+use Rattle.part_rows.specs.Rows.{followed, lead, stopped, exportRows}
 use Rattle.part_rows.proofs.Steps.{followed-refused}
 use Rattle.call_export_objects.specs.Objects.{fieldsFrom, rowRefusal, linkOf, objectRows, rowFits, exportObjects}
 use Rattle.call_export_objects.proofs.Walks.{way-splits, row-refusal, row-field}

@@ -8,13 +8,10 @@
 -- Assumes nothing.
 use Prim.Native.Nat.{ℕ, zero, suc, _+_, _-_, _/_, _≤_, _<_}
 use mathlib.Core.Path.{_≡_, refl, sym, _∙_, ap}
-use mathlib.Core.Logic.{_≢_}
 use native.Mathlib.Nat.{suc-add}
 use native.Mathlib.Omega.{arith}
-use lib.Dec.{leb}
 use borrow.Author.Tests.{eq-eqb, ne-eqb, le-leb}
 use Rattle.machine.specs.Tests.{_▷_}
-use Rattle.machine.specs.Block.{isBlock}
 use Rattle.machine.specs.Heap.{Heap}
 use Rattle.machine.specs.Entry.{entry}
 use Rattle.machine.specs.Standing.{holderRefusal}

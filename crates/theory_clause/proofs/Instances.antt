@@ -4,14 +4,13 @@
 --     touched              where a session stores into a row, the export differs
 --     dropped              where it lets go of the list, the export says that it is not complete
 -- Assumes nothing.
-use Prim.Native.Nat.{ℕ, _≤_}
+use Prim.Native.Nat.{ℕ}
 use mathlib.Core.Path.{_≡_, refl, sym, _∙_, ap, subst}
 use mathlib.Core.Logic.{_≢_, ⊎-elim}
-use mathlib.Core.Bool.{true, false}
-use mathlib.Core.List.{List, [], _∷_, _++_, List·Memᴰ, List·Memᴰ·eq-of-singleton, List·Memᴰ·cases-cons}
+use mathlib.Core.Bool.{true}
+use mathlib.Core.List.{List, [], _∷_, _++_, List·Memᴰ·eq-of-singleton, List·Memᴰ·cases-cons}
 use native.Mathlib.Omega.{arith}
 use lib.ListN.{getD}
-use Rattle.machine.specs.Heap.{Heap}
 use Rattle.machine.specs.Block.{wordOf, byteOf, bit}
 use Rattle.machine.specs.Format.{formatted}
 use Rattle.machine.specs.Session.{Call, session, lastOf}

@@ -11,14 +11,14 @@ use mathlib.Core.List.{List, [], _∷_, List·Memᴰ, Memᴰ·append-left, Mem�
 use Rattle.machine.specs.Heap.{Heap}
 use Rattle.machine.specs.WellFormed.{Names, WellFormed}
 use Rattle.machine.specs.Session.{Call, does, session}
-use Rattle.theory_promises.specs.Reachable.{isRoot, isNamed, SameWord}
+use Rattle.theory_promises.specs.Reachable.{isRoot, isNamed}
 use Rattle.theory_promises.specs.Plans.{Resets}
 use Rattle.theory_promises.specs.Demand2.{TouchesCall, Untouched}
 use Rattle.theory_promises.proofs.Courses.{call-formed}
 use Rattle.theory_promises.proofs.Losing.{word-join, nothing-lost}
 use Rattle.theory_promises.proofs.Chaining.{stays-no-reset, call-root}
 use Rattle.theory_promises.proofs.Rooming.{call-keeps}
-use Rattle.part_rows.specs.Rows.{withRow, lead, onward, exportFrom, exportRows}
+use Rattle.part_rows.specs.Rows.{withRow, onward, exportFrom, exportRows}
 use Rattle.part_rows.specs.Lists.{Leads, Along, here, past, Listed}
 use Rattle.part_rows.proofs.Walks.{leads-lead}
 use Rattle.part_rows.proofs.Meaning.{given-complete}

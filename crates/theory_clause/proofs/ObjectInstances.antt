@@ -7,13 +7,13 @@ use Prim.Native.Nat.{ℕ}
 use mathlib.Core.Path.{_≡_, refl, sym, _∙_, ap, subst}
 use mathlib.Core.Logic.{_≢_, ⊎-elim}
 use mathlib.Core.Bool.{true}
-use mathlib.Core.List.{List, [], _∷_, _++_, List·Memᴰ·eq-of-singleton, List·Memᴰ·cases-cons}
+use mathlib.Core.List.{[], _∷_, _++_, List·Memᴰ·eq-of-singleton, List·Memᴰ·cases-cons}
 use native.Mathlib.Omega.{arith}
 use lib.ListN.{getD, take}
 use Rattle.machine.specs.Block.{wordOf, byteOf, bit}
 use Rattle.machine.specs.Format.{formatted}
-use Rattle.machine.specs.Session.{Call, session, lastOf}
-use Rattle.machine.specs.Session.Call.{StoreNumber, StoreReference, Allocate}
+use Rattle.machine.specs.Session.{session, lastOf}
+use Rattle.machine.specs.Session.Call.{StoreNumber, Allocate}
 use Rattle.machine.specs.WellFormed.{Names, WellFormed}
 use Rattle.machine.proofs.Computing.{the-machine}
 use Rattle.theory_promises.specs.Demand2.{Untouched}

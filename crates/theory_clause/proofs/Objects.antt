@@ -6,44 +6,41 @@
 -- A row's blocks are named one by the other, so that they are reachable where the first is; a walk meets the same blocks where their words
 -- are the same, and on a well-formed heap it is refused nothing of a reachable object but by 3, at the object's end.
 -- Assumes nothing.
-use Prim.Native.Nat.{ℕ, zero, suc, _+_, _-_, _*_, _/_, _%_, _≤_, _<_}
+use Prim.Native.Nat.{ℕ, zero, suc, _+_, _-_, _/_, _%_, _≤_, _<_}
 use mathlib.Core.Path.{_≡_, refl, sym, _∙_, ap, subst}
 use mathlib.Core.Logic.{_≢_, ⊎-elim}
-use mathlib.Core.Bool.{true, false}
-use mathlib.Core.List.{List, [], _∷_, List·Memᴰ, List·Memᴰ·head, List·Memᴰ·tail, List·Memᴰ·eq-of-singleton, List·Memᴰ·cases-cons}
+use mathlib.Core.Bool.{true}
+use mathlib.Core.List.{List, _∷_, List·Memᴰ, List·Memᴰ·head, List·Memᴰ·tail, List·Memᴰ·eq-of-singleton, List·Memᴰ·cases-cons}
 use native.Mathlib.Omega.{arith}
 use borrow.Author.Tests.{eq-eqb}
 use Rattle.machine.specs.Tests.{_▷_}
-use Rattle.machine.specs.Block.{wordOf, byteOf, bit}
+use Rattle.machine.specs.Block.{byteOf, bit}
 use Rattle.machine.specs.Heap.{Heap}
 use Rattle.machine.specs.Chain as chain
 use Rattle.machine.specs.Entry.{entry}
 use Rattle.machine.specs.Standing.{holderRefusal}
 use Rattle.machine.specs.Read.{readAnswer}
 use Rattle.machine.specs.Field.{fieldPlace, nextOf, fieldBlock, linkRefusal, walkRefusal, fieldRefusal, readField}
-use Rattle.machine.specs.WellFormed.{Block, Names, WellFormed}
+use Rattle.machine.specs.WellFormed.{Names, WellFormed}
 use Rattle.machine.proofs.Tests.{by-test, by-eq}
 use Rattle.machine.proofs.Blocks.{block-isBlock}
 use Rattle.machine.proofs.Entering.{first-zero, entry-ready}
 use Rattle.machine.proofs.Refusals.{passes, stops, entered, holder-as}
-use Rattle.machine.proofs.Reading.{word-reference, word-number}
-use Rattle.machine.proofs.Fields.{field-fits, field-zero, link-number, link-null, link-on}
-use Rattle.theory_objects.specs.Lengths.{Long}
+use Rattle.machine.proofs.Fields.{field-fits, link-number, link-null, link-on}
 use Rattle.theory_objects.proofs.Lengths.{passed}
 use Rattle.theory_promises.specs.Reachable.{Reachable, isNamed, SameWord}
 use Rattle.theory_promises.proofs.Losing.{reachable-live}
 use Rattle.part_rows.specs.declared.Reason.the-variants.{Refused}
-use Rattle.part_rows.specs.declared.Exported.the-variants.{Stopped}
 use Rattle.part_rows.specs.Rows.{ExportGiven}
 use Rattle.part_rows.specs.Lists.{Leads}
 use Rattle.part_rows.proofs.Meaning.{rows-mean}
-use Rattle.call_export_objects.specs.Objects.{fieldsFrom, linkOf, objectRows, rowFits, exportObjects}
+use Rattle.call_export_objects.specs.Objects.{fieldsFrom, linkOf, objectRows, rowFits}
 use Rattle.call_export_objects.proofs.Walks.{row-field}
 use Rattle.call_export_objects.proofs.Steps.{fits-range, link-zero, link-refused, link-passed, row-block, object-rows, objects-fit}
 use Rattle.theory_clause.specs.Lasting.{SameWords}
 use Rattle.theory_clause.specs.Stopping.{TrueCircle}
-use Rattle.theory_clause.specs.Objects.{rowBlocks, objects, ObjectsLast, TooShort, OnlyTooShort}
-use Rattle.theory_clause.proofs.Steadiness.{Steady, Stays, along-hangs}
+use Rattle.theory_clause.specs.Objects.{rowBlocks, objects, ObjectsLast, OnlyTooShort}
+use Rattle.theory_clause.proofs.Steadiness.{Steady, along-hangs}
 use Rattle.theory_clause.proofs.Lasting.{rows-last}
 use Rattle.theory_clause.proofs.Stopping.{halts-refused, circles}
 

@@ -15,7 +15,7 @@ use Rattle.machine.specs.Heap.{Heap}
 use Rattle.machine.specs.Format.{formatted}
 use Rattle.machine.specs.WellFormed.{Names, WellFormed}
 use Rattle.machine.specs.Session.{session, lastOf}
-use Rattle.machine.specs.Session.Call.{StoreNumber, StoreReference, Allocate, AllocateChain, StoreFieldNumber, StoreFieldReference, Work}
+use Rattle.machine.specs.Session.Call.{StoreNumber, StoreReference, Allocate, AllocateChain, StoreFieldNumber, StoreFieldReference}
 use Rattle.theory_promises.specs.Demand2.{Untouched}
 use Rattle.part_rows.specs.declared.Reason.the-variants.{Refused}
 use Rattle.part_rows.specs.Rows.{complete, stopped}

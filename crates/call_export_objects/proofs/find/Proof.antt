@@ -6,7 +6,7 @@ use Rattle.machine.proofs.Tests.{so}
 use Rattle.machine.proofs.Entering.{entry-ready}
 use Rattle.machine.proofs.Fields.{field-zero, way-block}
 use Rattle.call_export_objects.proofs.Finding.{refused-by}
-use Rattle.call_export_objects.proofs.Steps.{InRange, fits-range, find-entry, find-place, find-off, find-ends}
+use Rattle.call_export_objects.proofs.Steps.{fits-range, find-entry, find-place, find-off, find-ends}
 use Rattle.call_export_objects.proofs.find.Statement.{statement}
 use Rattle.call_export_objects.proofs.find.Tie as tie
 

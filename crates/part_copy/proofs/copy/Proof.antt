@@ -1,5 +1,5 @@
 -- `part_copy::copy` meets its contract: the words before i are copied. Assumes nothing.
-use Prim.Native.Nat.{_-_, _≤_}
+use Prim.Native.Nat.{_-_}
 use mathlib.Core.Path.{_≡_, refl, _∙_}
 use native.Mathlib.Omega.{arith}
 use lib.ListN.{length, take, length-set}
