@@ -236,6 +236,8 @@ static void idle_measures(void)
     after(CALL(read, MACHINE_SEEN(r), LENT, 2, 1).refusal);
     measure("look", 0);
     after(CALL(look, MACHINE_SEEN(r), LENT, 2).refusal);
+    measure("state", 0);
+    after(CALL(state, MACHINE_SEEN(r), LENT, 2).refusal);
     measure("store-number", 0);
     after(CALL(store_number, &r, LENT, 2, 7, 5).refusal);
     measure("store-reference", 0);

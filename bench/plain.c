@@ -48,6 +48,30 @@ struct plain_look_answer plain_look(const struct plain_regs *r, PLAIN_SEEN, uint
     return (struct plain_look_answer){e, e ? UINT32_MAX : 8 * (b - 2)};
 }
 
+/* The numbers by which State tells what a number is. */
+enum { TOLD_LIVE_WHITE = 1, TOLD_DOOMED, TOLD_GREY, TOLD_BLACK, TOLD_FREE, TOLD_OUTSIDE };
+
+static uint32_t told(const struct plain_regs *r, const uint32_t *colours, uint32_t b)
+{
+    if (!is_block(r->blocks, b))
+        return TOLD_OUTSIDE;
+    uint32_t word = colours[b - 2];
+    if (word == WHITE)
+        return r->phase == SWEEPING && b >= r->position ? TOLD_DOOMED : TOLD_LIVE_WHITE;
+    if (word == BLACK)
+        return TOLD_BLACK;
+    if (word == FREE)
+        return TOLD_FREE;
+    return is_grey(r->blocks, word) ? TOLD_GREY : TOLD_OUTSIDE;
+}
+
+struct plain_answer plain_state(const struct plain_regs *r, PLAIN_SEEN, uint32_t b)
+{
+    (void)words, (void)bytes;
+    uint32_t e = entry(r, words_length, colours_length, bytes_length);
+    return answered(e, e ? 0 : told(r, colours, b), 0);
+}
+
 struct plain_answer plain_store_number(struct plain_regs *r, PLAIN_LENT, uint32_t b, uint32_t w, uint32_t v)
 {
     uint32_t e = word_refusal(r, words_length, colours, colours_length, bytes_length, b, w);

@@ -39,6 +39,7 @@ struct plain_export_answer {
 struct plain_answer plain_format(struct plain_regs *r, PLAIN_LENT, uint32_t m, uint32_t u);
 struct plain_read_answer plain_read(const struct plain_regs *r, PLAIN_SEEN, uint32_t b, uint32_t w);
 struct plain_look_answer plain_look(const struct plain_regs *r, PLAIN_SEEN, uint32_t b);
+struct plain_answer plain_state(const struct plain_regs *r, PLAIN_SEEN, uint32_t b);
 struct plain_answer plain_store_number(struct plain_regs *r, PLAIN_LENT, uint32_t b, uint32_t w, uint32_t v);
 struct plain_answer plain_store_reference(struct plain_regs *r, PLAIN_LENT, uint32_t b, uint32_t w, uint32_t t);
 struct plain_answer plain_set_root(struct plain_regs *r, PLAIN_LENT, uint32_t t);

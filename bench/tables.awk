@@ -90,6 +90,7 @@ END {
     row("Turning to the sweep", "turning")
     row("Read", "read", 90)
     row("Look", "look", 73)
+    row("State", "state")
     row("Store number", "store-number", 97)
     row("Store reference, idle", "store-reference", 133)
     row("Store reference, marking, a white target", "store-reference-white", 136)

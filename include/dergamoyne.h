@@ -111,7 +111,7 @@
 
    This header, the way in which C passes arguments and results, and the compilers are not proved. They are tested. tests/c makes
    more than 190,000 calls through this header, also on damaged heaps and with wrong lengths. It compares what they answer with a
-   second model's answers, and the whole heap after 43,000 of them. tests/fuzz compares millions of calls with the same machine in
+   second model's answers, and the whole heap after 52,000 of them. tests/fuzz compares millions of calls with the same machine in
    plain C. */
 #ifndef DERGAMOYNE_H
 #define DERGAMOYNE_H
@@ -120,8 +120,8 @@
 #include <stdint.h>
 
 /* The version: 1,000,000 for each major, 1,000 for each minor, 1 for each patch. */
-#define DERGAMOYNE_VERSION 3002u
-#define DERGAMOYNE_VERSION_TEXT "0.3.2"
+#define DERGAMOYNE_VERSION 4000u
+#define DERGAMOYNE_VERSION_TEXT "0.4.0"
 
 /* Marks a function whose answer must not be ignored: the compiler warns if it is. */
 #ifndef DERGAMOYNE_MUST_USE
@@ -208,6 +208,18 @@ struct dergamoyne_look_answer {
     uint32_t refusal, at;
 };
 
+/* What State tells of a number. A call that names a block is refused by 5 or 6 if the block is free or doomed, and by 8 if its
+   colour is outside the layout. Otherwise the block's state does not stand in its way. */
+enum dergamoyne_block_state {
+    DERGAMOYNE_STATE_LIVE_WHITE = 1, /* allocated; not met by the collector in this cycle, or swept already */
+    DERGAMOYNE_STATE_DOOMED = 2,     /* allocated, but the sweep is about to free it */
+    DERGAMOYNE_STATE_GREY = 3,       /* allocated; met by the collector, its references not yet */
+    DERGAMOYNE_STATE_BLACK = 4,      /* allocated; met by the collector, and its references too; or new */
+    DERGAMOYNE_STATE_FREE = 5,       /* not allocated */
+    DERGAMOYNE_STATE_OUTSIDE = 6     /* no block, that is not 2 to M + 1; or a block whose colour can't be: something else has
+                                        written to the buffers */
+};
+
 /* Why an export is not complete, in the order in which this is tested before each row. */
 enum dergamoyne_reason {
     DERGAMOYNE_COMPLETE = 0,
@@ -276,6 +288,14 @@ DERGAMOYNE_MUST_USE struct dergamoyne_answer dergamoyne_store_reference(
    with an index 0 it would read another block. Test the refusal all the same, since at + 1 in 32 bits is 0. A block's place never
    changes, but after an Allocate or a Work ask again whether it may be read. */
 DERGAMOYNE_MUST_USE struct dergamoyne_look_answer dergamoyne_look(
+    struct dergamoyne_regs regs, const uint32_t *words, size_t words_length, const uint32_t *colours,
+    size_t colours_length, const uint8_t *bytes, size_t bytes_length, uint32_t b);
+
+/* State: what the number b is. The value is one of enum dergamoyne_block_state, and never 0 unless the call is refused. b may be
+   any number; one that is no block is outside the layout and not refused. It changes nothing. The answer is about this moment:
+   any call that is lent the record by pointer can change what a block is. It says what calls may do with the block, not whether
+   the root reaches it. Refusals: 1, 2. */
+DERGAMOYNE_MUST_USE struct dergamoyne_answer dergamoyne_state(
     struct dergamoyne_regs regs, const uint32_t *words, size_t words_length, const uint32_t *colours,
     size_t colours_length, const uint8_t *bytes, size_t bytes_length, uint32_t b);
 

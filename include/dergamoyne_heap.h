@@ -47,7 +47,7 @@ enum dergamoyne_phase { DERGAMOYNE_IDLE = 0, DERGAMOYNE_MARKING = 1, DERGAMOYNE_
 #define DERGAMOYNE_LENT h->words, h->words_length, h->colours, h->colours_length, h->bytes, h->bytes_length
 
 
-/* IN WORDS: what a refusal means, and an export's reason. */
+/* IN WORDS: what a refusal means, an export's reason, and the state of a block. */
 
 static inline const char *dergamoyne_refusal_text(uint32_t refusal)
 {
@@ -100,6 +100,26 @@ static inline const char *dergamoyne_reason_text(uint32_t reason)
         return "the link of the next row is a number";
     default:
         return "a reason that this version does not know";
+    }
+}
+
+static inline const char *dergamoyne_state_text(uint32_t state)
+{
+    switch (state) {
+    case DERGAMOYNE_STATE_LIVE_WHITE:
+        return "live white";
+    case DERGAMOYNE_STATE_DOOMED:
+        return "doomed";
+    case DERGAMOYNE_STATE_GREY:
+        return "grey";
+    case DERGAMOYNE_STATE_BLACK:
+        return "black";
+    case DERGAMOYNE_STATE_FREE:
+        return "free";
+    case DERGAMOYNE_STATE_OUTSIDE:
+        return "outside the layout";
+    default:
+        return "a state that this version does not know";
     }
 }
 
@@ -529,7 +549,7 @@ DERGAMOYNE_REFUSABLE dergamoyne_heap_collect(struct dergamoyne_heap *h)
 }
 
 
-/* THE STATE OF THE HEAP */
+/* THE STATE OF THE HEAP, AND OF A BLOCK */
 
 static inline uint32_t dergamoyne_heap_blocks(const struct dergamoyne_heap *h)
 {
@@ -562,6 +582,16 @@ static inline enum dergamoyne_phase dergamoyne_heap_phase(const struct dergamoyn
 static inline uint32_t dergamoyne_heap_cycles(const struct dergamoyne_heap *h)
 {
     return h->regs.cycle;
+}
+
+/* What a number is: live white, doomed, grey, black, free, or outside the layout, as every number is that is no block. It is for
+   listings and for finding mistakes. Don't use it to keep a block: only a reference does that. Refusals: 1, 2. */
+DERGAMOYNE_REFUSABLE dergamoyne_heap_state(const struct dergamoyne_heap *h, uint32_t block, enum dergamoyne_block_state *state)
+{
+    struct dergamoyne_answer a = dergamoyne_state(h->regs, DERGAMOYNE_LENT, block);
+    if (a.refusal == DERGAMOYNE_DONE)
+        *state = (enum dergamoyne_block_state)a.value;
+    return (enum dergamoyne_refusal)a.refusal;
 }
 
 /* Tests the whole heap. The cost grows with the number of blocks. Returns 0 if the heap is well-formed; 1 if the number of blocks,

@@ -1,7 +1,7 @@
 """Cases of the exported calls with what comes of them, for tests/c/cases.c.
 
 python3 model/calls.py prints those stored in tests/c/cases.txt;
-python3 model/calls.py SEED COUNT prints COUNT * 50 drawn from SEED.
+python3 model/calls.py SEED COUNT prints COUNT * 60 drawn from SEED.
 
 A case is two lines, before the call and after it:
 
@@ -26,6 +26,7 @@ import export_cases
 import exports
 import machine
 import probe
+import states
 
 TOP = 4294967295
 
@@ -59,6 +60,7 @@ CALLS = {
     "store_field_number": plain(chains.store_field_number),
     "store_field_reference": plain(chains.store_field_reference),
     "export_objects": exports.export_objects,
+    "state": plain(states.state),
 }
 
 # The letters by which heapprobe's cases name the calls of document 01.
@@ -123,6 +125,23 @@ def export_case(rng):
     return case("export", [start, link], h, buffer(rng, h.M if h.M < 9 else 8))
 
 
+# --------------------------------------------------------------------- states
+
+def state_case(rng):
+    """State of any number, on a heap reached by calls or drawn, at times put in
+    the midst of a sweep, at times with something damaged."""
+    h = draw.reached_heaps(rng, 1)[0] if draw.chance(rng, 0.6) else draw.small_heap(rng, 6)
+    if draw.chance(rng, 0.3) and h.colours:
+        h.phase, h.grey_head = machine.SWEEPING, machine.GREY_END
+        h.position = draw.between(rng, 2, len(h.colours) + 1)
+    if draw.chance(rng, 0.4):
+        draw.damage(rng, h)
+    number = draw.small_number(rng, h.M)
+    if draw.chance(rng, 0.75):
+        number = draw.between(rng, 2, len(h.colours) + 1)
+    return case("state", [number], h)
+
+
 # ------------------------------------------------------------------ all of it
 
 def drawn(rng, count):
@@ -149,6 +168,12 @@ def drawn_exports(rng, count):
         yield case("export_objects", numbers, h, out)
 
 
+def drawn_states(rng, count):
+    """Ten states told, so many times."""
+    for _ in range(10 * count):
+        yield state_case(rng)
+
+
 def stored():
     """Those worked out by hand, and a few drawn."""
     for _, letter, numbers, h, _ in damage.cases():
@@ -162,6 +187,9 @@ def stored():
     for _, h, room, start, fields, link, _, _, _ in export_cases.cases():
         yield case("export_objects", [start, fields, link], h, [7777] * room)
     yield from drawn_exports(random.Random(105), 20)
+    for _, h, number, _ in states.by_hand():
+        yield case("state", [number], h)
+    yield from drawn_states(random.Random(106), 16)
 
 
 def main(arguments):
@@ -169,7 +197,8 @@ def main(arguments):
         seed, count = arguments
         found = itertools.chain(drawn(random.Random(f"calls {seed}"), int(count)),
                                 drawn_chains(random.Random(f"chains {seed}"), int(count)),
-                                drawn_exports(random.Random(f"exports {seed}"), int(count)))
+                                drawn_exports(random.Random(f"exports {seed}"), int(count)),
+                                drawn_states(random.Random(f"states {seed}"), int(count)))
     else:
         found = stored()
     sys.stdout.writelines(found)

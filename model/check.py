@@ -15,6 +15,7 @@ import facts
 import lines
 import machine
 import probe
+import states
 from machine import BLACK, FREE, WHITE
 
 
@@ -364,6 +365,61 @@ def exports_by_hand():
     return f"{count} cases"
 
 
+def states_by_hand():
+    """Each state in each phase, numbers that are no blocks, colour words that
+    are none, refusals 1 and 2 first."""
+    count = 0
+    for what, h, number, wanted in states.by_hand():
+        before = machine.copy(h)
+        equal(states.state(h, number), wanted, what)
+        need(h == before, f"{what}: the heap is changed", before, h)
+        count += 1
+    return f"{count} cases"
+
+
+def states_and_facts():
+    """On any heap: State refuses by 1 or 2, else it tells exactly the sets that
+    facts.py states, and by them the refusal of Read, for every number."""
+    rng = random.Random(15)
+    told = {}
+    for _ in range(6000):
+        h = draw.small_heap(rng, 4) if draw.chance(rng, 0.8) else draw.reached_heaps(rng, 1)[0]
+        if draw.chance(rng, 0.4):
+            draw.damage(rng, h)
+        before = machine.copy(h)
+        for number in (0, 1, *range(2, len(h.colours) + 3), 4294967295):
+            no, state, units = states.state(h, number)
+            told[no, state] = told.get((no, state), 0) + 1
+            wanted = told_by_facts(h, number)
+            need((no, state, units) == wanted,
+                 f"State of {number} is {no} {state} {units}, by facts {wanted}", h)
+            if not no and number in facts.blocks(h):
+                refusal = {states.DOOMED: 5, states.IS_FREE: 5, states.OUTSIDE: 8}.get(state, 0)
+                equal(machine.read(h, number, 0)[0], refusal, f"Read of {number} in state {state}")
+        need(h == before, "State changes the heap", before, h)
+    for wanted in ((1, 0), (2, 0), *((0, state) for state in range(1, 7))):
+        need(told.get(wanted, 0) > 200, f"State answers {wanted} only {told.get(wanted, 0)} times")
+    return f"{sum(told.values())} numbers"
+
+
+def told_by_facts(h, number):
+    """The answer of State in the words of facts.py."""
+    if not facts.lengths_M_and_U_fit(h):
+        return 1, 0, 0
+    if not facts.registers_are_legal(h):
+        return 2, 0, 0
+    if number in facts.doomed(h):
+        return 0, states.DOOMED, 0
+    if number in facts.allocated(h):
+        if facts.grey(h, number):
+            return 0, states.IS_GREY, 0
+        white = facts.colour_of(h, number) == WHITE
+        return 0, states.LIVE_WHITE if white else states.IS_BLACK, 0
+    if number in facts.blocks(h) and facts.colour_of(h, number) == FREE:
+        return 0, states.IS_FREE, 0
+    return 0, states.OUTSIDE, 0
+
+
 def leaves_its_units(before, h, letter, answer):
     """A refusal has value 0 and changes nothing, except that in Work and
     Allocate the units finished before it stand and are counted."""
@@ -410,7 +466,8 @@ def damaged_heaps():
 # ------------------------------------------------------------------ all of it
 
 TESTS = [hand_checked_cases, the_listing, rules_of_lines, cases_by_hand, exports_by_hand,
-         damaged_heaps, drawn_heaps, long_runs, room_enough, room_enough_exhaustive]
+         states_by_hand, states_and_facts, damaged_heaps, drawn_heaps, long_runs, room_enough,
+         room_enough_exhaustive]
 
 
 def main(tests):

@@ -340,6 +340,44 @@ static void object_rows(void)
     dergamoyne_heap_close(&h);
 }
 
+/* ---- what a block is ---- */
+
+static void is(const struct dergamoyne_heap *h, uint32_t block, enum dergamoyne_block_state expected, const char *what)
+{
+    enum dergamoyne_block_state state = DERGAMOYNE_STATE_OUTSIDE;
+    expect(dergamoyne_heap_state(h, block, &state) == DERGAMOYNE_DONE && state == expected, what);
+}
+
+/* A root 2 that names 3, through one cycle: 3 is let go before it. */
+static void states(void)
+{
+    struct dergamoyne_heap h;
+    enum dergamoyne_block_state state = DERGAMOYNE_STATE_OUTSIDE;
+    uint32_t root = 0, second = 0, colour;
+    expect(dergamoyne_heap_open(&h, 3, 1) == DERGAMOYNE_DONE, "a heap of three blocks");
+    is(&h, 2, DERGAMOYNE_STATE_FREE, "a fresh heap");
+    expect(dergamoyne_heap_new_root(&h, &root) == DERGAMOYNE_DONE, "a root");
+    is(&h, root, DERGAMOYNE_STATE_BLACK, "a new block while marking");
+    expect(dergamoyne_heap_new_block(&h, root, 0, &second) == DERGAMOYNE_DONE, "a block");
+    expect(dergamoyne_heap_work(&h, 3) == DERGAMOYNE_DONE, "the sweep");
+    is(&h, root, DERGAMOYNE_STATE_LIVE_WHITE, "a block that was swept");
+    expect(dergamoyne_heap_work(&h, 1) == DERGAMOYNE_DONE, "the next cycle's start");
+    is(&h, root, DERGAMOYNE_STATE_GREY, "the root then");
+    expect(dergamoyne_heap_store_null(&h, root, 0) == DERGAMOYNE_DONE && dergamoyne_heap_work(&h, 2) == DERGAMOYNE_DONE, "let go");
+    is(&h, second, DERGAMOYNE_STATE_DOOMED, "a block that is about to be freed");
+    is(&h, 4, DERGAMOYNE_STATE_FREE, "a block that was never taken");
+    is(&h, 0, DERGAMOYNE_STATE_OUTSIDE, "no block");
+    is(&h, 5, DERGAMOYNE_STATE_OUTSIDE, "the number after the last block");
+    is(&h, 4294967295u, DERGAMOYNE_STATE_OUTSIDE, "the largest number");
+    colour = h.colours[0];
+    h.colours[0] = 4294967293u;
+    is(&h, root, DERGAMOYNE_STATE_OUTSIDE, "a colour that can't be");
+    h.colours[0] = colour;
+    dergamoyne_heap_close(&h);
+    state = DERGAMOYNE_STATE_GREY;
+    expect(dergamoyne_heap_state(&h, 2, &state) == DERGAMOYNE_DOES_NOT_FIT && state == DERGAMOYNE_STATE_GREY, "a refused state");
+}
+
 /* ---- texts and versions ---- */
 
 static void texts(void)
@@ -349,7 +387,10 @@ static void texts(void)
             expect(strcmp(dergamoyne_refusal_text(n), dergamoyne_refusal_text(m)) != 0, "a refusal has a text of its own");
     for (uint32_t n = 1; n < 5; n++)
         expect(strcmp(dergamoyne_reason_text(n), dergamoyne_reason_text(n - 1)) != 0, "a reason has a text of its own");
+    for (uint32_t n = 1; n < 7; n++)
+        expect(strcmp(dergamoyne_state_text(n), dergamoyne_state_text(n - 1)) != 0, "a state has a text of its own");
     expect(strcmp(dergamoyne_refusal_text(10), dergamoyne_refusal_text(11)) == 0, "an unknown refusal");
+    expect(strcmp(dergamoyne_state_text(0), dergamoyne_state_text(7)) == 0, "an unknown state");
 }
 
 static void versions(void)
@@ -373,6 +414,7 @@ int main(void)
     undersized();
     enough();
     object_rows();
+    states();
     texts();
     versions();
     return bad;

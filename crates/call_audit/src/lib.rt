@@ -1,18 +1,20 @@
 // The audit: 1 for a well-formed heap, else 0. Its cost is linear in M, and it keeps no memory of its own.
 use machine::Answer;
-use machine::Colour;
 use machine::Regs;
+use machine::State;
 ghost use mathlib.Core.Path.{_≡_};
 ghost use mathlib.Core.List.{List};
 ghost use mathlib.Core.Bool.{true};
 ghost use Prim.Native.Nat.{ℕ, _≤_};
 ghost use lib.ListN.{length};
-ghost use Rattle.machine.specs.declared.Colour.the-variants.{White, Grey, Black, Free};
+ghost use Rattle.machine.specs.declared.State.the-variants.{Grey, Black, Free};
 ghost use mathlib.Core.Logic.{_↔_};
 ghost use Rattle.machine.specs.WellFormed.{Block, WellFormed};
 ghost use Rattle.machine.specs.Heap.{heap, colouring};
 ghost use Rattle.machine.specs.Ready.{Ready};
-ghost use Rattle.machine.specs.Audit.{allFrom, layoutPasses, zeroFrom, mayBeBlack, colourPasses, blockPasses, passes, audit};
+ghost use Rattle.machine.specs.Colouring.{Colouring, coloured, CellsFit};
+ghost use Rattle.machine.specs.Lists.{allFrom};
+ghost use Rattle.machine.specs.Audit.{layoutPasses, zeroFrom, statePasses, blockPasses, passes, audit};
 
 // Whether words 1 to 7 are 0.
 fn zeroes(part: &[u32]) -> bool
@@ -25,28 +27,10 @@ fn zeroes(part: &[u32]) -> bool
     (part[4] | part[5] | part[6] | part[7]) == 0
 }
 
-// Whether the block b may be black.
-fn may_be_black(r: Regs, b: u32) -> bool
-    ensures { λ t. ⌜ t ≡ mayBeBlack r b ⌝ }
-{
-    r.phase == machine::MARKING || (r.phase == machine::SWEEPING && r.position <= b)
-}
-
-// Whether the white block b passes.
-fn white_passes(r: Regs, colours: &[u32], part: &[u32], byte: u8, b: u32) -> bool
-    requires { ⌜ (r .blocks ≤ 16384) × (length (now colours) ≡ r .blocks) × (length (now part) ≡ 8) ⌝ }
-    ensures { λ t. ⌜ t ≡ colourPasses r (now (colours .entry)) (now (part .entry)) byte b White ⌝ }
-{
-    if part_checks::doomed_white(r.phase, r.position, b) {
-        return true;
-    }
-    part_names::may_name_all(r, colours, false, part, byte)
-}
-
 // Whether the grey block b passes.
 fn grey_passes(r: Regs, colours: &[u32], part: &[u32], byte: u8, b: u32) -> bool
-    requires { ⌜ (r .blocks ≤ 16384) × (length (now colours) ≡ r .blocks) × (length (now part) ≡ 8) ⌝ }
-    ensures { λ t. ⌜ t ≡ colourPasses r (now (colours .entry)) (now (part .entry)) byte b Grey ⌝ }
+    requires { ⌜ (r .blocks ≤ 16384) × CellsFit (r .blocks) (now colours) × (length (now part) ≡ 8) ⌝ }
+    ensures { λ t. ⌜ t ≡ statePasses r (coloured (r .blocks) (r .grey) (now (colours .entry))) (now (part .entry)) byte b Grey ⌝ }
 {
     if r.phase == machine::MARKING {
         return part_names::may_name_all(r, colours, false, part, byte);
@@ -56,10 +40,10 @@ fn grey_passes(r: Regs, colours: &[u32], part: &[u32], byte: u8, b: u32) -> bool
 
 // Whether the black block b passes.
 fn black_passes(r: Regs, colours: &[u32], part: &[u32], byte: u8, b: u32) -> bool
-    requires { ⌜ (r .blocks ≤ 16384) × (length (now colours) ≡ r .blocks) × (length (now part) ≡ 8) ⌝ }
-    ensures { λ t. ⌜ t ≡ colourPasses r (now (colours .entry)) (now (part .entry)) byte b Black ⌝ }
+    requires { ⌜ (r .blocks ≤ 16384) × CellsFit (r .blocks) (now colours) × (length (now part) ≡ 8) ⌝ }
+    ensures { λ t. ⌜ t ≡ statePasses r (coloured (r .blocks) (r .grey) (now (colours .entry))) (now (part .entry)) byte b Black ⌝ }
 {
-    if may_be_black(r, b) {
+    if part_state::may_be_black(r.phase, r.position, b) {
         return part_names::may_name_all(r, colours, r.phase == machine::MARKING, part, byte);
     }
     false
@@ -68,7 +52,7 @@ fn black_passes(r: Regs, colours: &[u32], part: &[u32], byte: u8, b: u32) -> boo
 // Whether the free block passes: its byte and its words 1 to 7 are 0.
 fn free_passes(part: &[u32], byte: u8) -> bool
     requires { ⌜ length (now part) ≡ 8 ⌝ }
-    ensures { λ t. ⌜ ((r : Regs) (cs : List ℕ) (b : ℕ) → t ≡ colourPasses r cs (now (part .entry)) byte b Free) ⌝ }
+    ensures { λ t. ⌜ ((r : Regs) (k : Colouring) (b : ℕ) → t ≡ statePasses r k (now (part .entry)) byte b Free) ⌝ }
 {
     if byte == 0 {
         return zeroes(part);
@@ -76,17 +60,18 @@ fn free_passes(part: &[u32], byte: u8) -> bool
     false
 }
 
-// Whether the block b of colour c passes, whose words are part and whose byte is byte.
-fn colour_passes(r: Regs, colours: &[u32], part: &[u32], byte: u8, b: u32, c: Colour) -> bool
-    requires { ⌜ (r .blocks ≤ 16384) × (length (now colours) ≡ r .blocks) × (length (now part) ≡ 8) ⌝ }
-    ensures { λ t. ⌜ t ≡ colourPasses r (now (colours .entry)) (now (part .entry)) byte b c ⌝ }
+// Whether the block b in the state s passes, whose words are part and whose byte is byte.
+fn state_passes(r: Regs, colours: &[u32], part: &[u32], byte: u8, b: u32, s: State) -> bool
+    requires { ⌜ (r .blocks ≤ 16384) × CellsFit (r .blocks) (now colours) × (length (now part) ≡ 8) ⌝ }
+    ensures { λ t. ⌜ t ≡ statePasses r (coloured (r .blocks) (r .grey) (now (colours .entry))) (now (part .entry)) byte b s ⌝ }
 {
-    match c {
-        Colour::White => white_passes(r, colours, part, byte, b),
-        Colour::Grey => grey_passes(r, colours, part, byte, b),
-        Colour::Black => black_passes(r, colours, part, byte, b),
-        Colour::Free => free_passes(part, byte),
-        Colour::Outside => false,
+    match s {
+        State::LiveWhite => part_names::may_name_all(r, colours, false, part, byte),
+        State::Doomed => true,
+        State::Grey => grey_passes(r, colours, part, byte, b),
+        State::Black => black_passes(r, colours, part, byte, b),
+        State::Free => free_passes(part, byte),
+        State::Outside => false,
     }
 }
 
@@ -98,8 +83,8 @@ fn block_passes(r: Regs, words: &[u32], colours: &[u32], bytes: &[u8], b: u32) -
     let i = b as usize - 2;
     let at = 8 * i;
     let end = at + 8;
-    let c = part_colours::colour(r.blocks, part_colours::word_of(colours, b));
-    colour_passes(r, colours, &words[at..end], bytes[i], b, c)
+    let s = part_state::state_of(r.blocks, r.phase, r.position, colours, b);
+    state_passes(r, colours, &words[at..end], bytes[i], b, s)
 }
 
 // Whether every block passes.
@@ -121,8 +106,8 @@ fn blocks_pass(r: Regs, words: &[u32], colours: &[u32], bytes: &[u8]) -> bool
 
 // Whether the grey list has exactly the grey blocks, asked where every block passes: then a block is grey only while marking.
 fn greys(r: Regs, colours: &[u32]) -> bool
-    requires { ⌜ (r .blocks ≤ 16384) × (length (now colours) ≡ r .blocks) ⌝ }
-    ensures { λ t. ⌜ ((ws bs : List ℕ) → Ready (heap r ws (now (colours .entry)) bs) → allFrom (blockPasses (heap r ws (now (colours .entry)) bs)) (r .blocks) 2 ≡ true → t ≡ layoutPasses (r .blocks) (colouring (heap r ws (now (colours .entry)) bs))) ⌝ }
+    requires { ⌜ (r .blocks ≤ 16384) × CellsFit (r .blocks) (now colours) ⌝ }
+    ensures { λ t. ⌜ ((ws bs : List ℕ) → Ready (heap r ws (now (colours .entry)) bs) → allFrom (blockPasses (heap r ws (now (colours .entry)) bs)) (r .blocks) 2 ≡ true → t ≡ layoutPasses (colouring (heap r ws (now (colours .entry)) bs))) ⌝ }
 {
     if r.phase != machine::MARKING {
         return true;

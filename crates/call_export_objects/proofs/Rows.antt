@@ -15,7 +15,7 @@ use Rattle.machine.specs.Block.{base, wordOf}
 use Rattle.machine.specs.Heap.{Heap}
 use Rattle.machine.specs.Entry.{entry}
 use Rattle.machine.specs.Chain.{link}
-use Rattle.machine.specs.Standing.{holderRefusal}
+use Rattle.machine.specs.State.{holderRefusal}
 use Rattle.machine.specs.Read.{readAnswer}
 use Rattle.machine.specs.Field.{fieldPlace, nextOf, fieldBlock, linkRefusal, walkRefusal, fieldRefusal, readField}
 use Rattle.machine.specs.Ready.{Ready}

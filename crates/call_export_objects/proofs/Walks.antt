@@ -14,7 +14,7 @@ use borrow.Author.Tests.{eq-eqb, ne-eqb, le-leb}
 use Rattle.machine.specs.Tests.{_▷_}
 use Rattle.machine.specs.Heap.{Heap}
 use Rattle.machine.specs.Entry.{entry}
-use Rattle.machine.specs.Standing.{holderRefusal}
+use Rattle.machine.specs.State.{holderRefusal}
 use Rattle.machine.specs.Read.{readAnswer}
 use Rattle.machine.specs.Field.{fieldPlace, nextOf, fieldBlock, linkRefusal, walkRefusal, fieldRefusal, readField}
 use Rattle.machine.proofs.Tests.{by-eq}

@@ -1,5 +1,5 @@
 // The outer calls, for a host in C. Nine write to the heap: the host lends its one register record, and the call changes it in
-// place, over a core that takes the record by value and gives it back. Six only look, and take the record by value.
+// place, over a core that takes the record by value and gives it back. Seven only look, and take the record by value.
 use machine::Answer;
 use machine::ReadAnswer;
 use machine::Regs;
@@ -17,6 +17,7 @@ ghost use Rattle.machine.specs.Chain.{allocateChain};
 ghost use Rattle.machine.specs.Field.{readField, storeFieldNumber, storeFieldReference};
 ghost use Rattle.machine.specs.Work.{work};
 ghost use Rattle.machine.specs.Audit.{audit};
+ghost use Rattle.machine.specs.Tell.{tellState};
 ghost use Rattle.call_export.specs.Export.{exportNumbers};
 ghost use Rattle.call_export_objects.specs.Objects.{exportObjectsNumbers};
 ghost use Rattle.dergamoyne.specs.Host.{lookIndex, version, recordSize};
@@ -34,7 +35,7 @@ pub struct LookAnswer {
 pub extern "C" fn dergamoyne_version() -> u32
     ensures { λ n. ⌜ n ≡ version ⌝ }
 {
-    3002
+    4000
 }
 
 // How many bytes a register record takes in memory.
@@ -268,6 +269,21 @@ pub extern "C" fn dergamoyne_audit(
     ensures meaning { λ x. ⌜ ((x .value ≡ 1) ↔ WellFormed (heap regs (now (words .entry)) (now (colours .entry)) (now (bytes .entry)))) ⌝ }
 {
     call_audit::audit(regs, words, colours, bytes)
+}
+
+// State: what b is, which is any number: value 1 live white, 2 doomed, 3 grey, 4 black, 5 free, 6 outside the layout. It refuses by
+// 1 and 2 alone, and changes nothing.
+#[no_mangle]
+pub extern "C" fn dergamoyne_state(
+    regs: Regs,
+    words: &[u32],
+    colours: &[u32],
+    bytes: &[u8],
+    b: u32,
+) -> Answer
+    ensures { λ x. ⌜ (record { answer = x; heap = heap regs (now (words .exit)) (now (colours .exit)) (now (bytes .exit)) }) ≡ tellState b (heap regs (now (words .entry)) (now (colours .entry)) (now (bytes .entry))) ⌝ }
+{
+    call_state::state(regs, words, colours, bytes, b)
 }
 
 // Export: the rows of the list that starts at the block start, where 0 is the empty list, and goes on by the reference in word

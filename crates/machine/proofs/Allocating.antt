@@ -2,7 +2,7 @@
 --     due-pace, due-none, due-share     the units due
 --     first-not-free, first-link        the test of the first free block
 --     list-none, list-uncounted, list-counted, list-bad, list-good     the tests of the free list
---     new-marking, new-ahead, new-behind, new-idle     the new block's colour
+--     new-black, new-white              the new block's colour
 --     taken-as, held-root, held-word    the taking and the storing
 --     take-none, take-stops, take-passes     the tests after the units
 --     after-refused, after-done         what follows the units
@@ -18,22 +18,23 @@ use mathlib.Core.List.{List}
 use native.Mathlib.Nat.{add-zero}
 use native.Mathlib.Omega.{arith}
 use lib.ListN.{getD, set}
-use borrow.Author.Tests.{eq-eqb, ne-eqb, le-leb, lt-leb}
+use borrow.Author.Tests.{eq-eqb, ne-eqb}
 use Rattle.machine.specs.declared.Regs.{Regs}
 use Rattle.machine.specs.declared.Colour.{Colour}
+use Rattle.machine.specs.declared.Colour.the-variants.{White, Black}
 use Rattle.machine.specs.Tests.{_▷_}
 use Rattle.machine.specs.Rounding.{roundedUp}
-use Rattle.machine.specs.Registers.{marking, sweeping, withFree, withCount, withRoot}
+use Rattle.machine.specs.Registers.{withFree, withCount, withRoot}
 use Rattle.machine.specs.Block.{base}
-use Rattle.machine.specs.Colouring.{white, black, freeColour, colour, colourWord, paint}
-use Rattle.machine.specs.Heap.{Heap, heap, withRegs}
-use Rattle.machine.specs.Standing.{holderRefusal}
+use Rattle.machine.specs.Colouring.{isFree, painted}
+use Rattle.machine.specs.Heap.{Heap, heap, colouring, withRegs}
+use Rattle.machine.specs.State.{holderRefusal, mayBeBlack, newColour}
 use Rattle.machine.specs.Entry.{entry, holderPlace, isBlockOrNone}
 use Rattle.machine.specs.Answers.{Given, answering, refuse}
 use Rattle.machine.specs.Units.{RunEnd, stopped, run}
 use Rattle.machine.specs.WellFormed.{Block}
 use Rattle.machine.specs.Store.{putReference}
-use Rattle.machine.specs.Allocate.{unitsDue, firstFits, listRefusal, newColour, taken, held, takeRefusal, allocated, allocate}
+use Rattle.machine.specs.Allocate.{unitsDue, firstFits, listRefusal, taken, held, takeRefusal, allocated, allocate}
 use Rattle.machine.proofs.Tests.{by-eq}
 use Rattle.machine.proofs.Blocks.{block-as}
 use Rattle.machine.proofs.Entering.{first-zero}
@@ -55,34 +56,26 @@ module _ (r : Regs) where
       let e : max 1 (r .count) ≡ r .count = omega arith in
       simp (eq-eqb (r .pace) 0 p) (rw e refl)
 
-  pub new-marking : (b : ℕ) → r .phase ≡ marking → black ≡ newColour r b
+  pub new-black : (b : ℕ) → mayBeBlack r b ≡ true → Black ≡ newColour r b
   unfolding newColour
-  new-marking b k = simp (eq-eqb (r .phase) marking k)
+  new-black b e = simp e
 
-  pub new-ahead : (b : ℕ) → r .phase ≢ marking → r .phase ≡ sweeping → r .position ≤ b → black ≡ newColour r b
+  pub new-white : (b : ℕ) → mayBeBlack r b ≡ false → White ≡ newColour r b
   unfolding newColour
-  new-ahead b k s l = simp (ne-eqb (r .phase) marking k, eq-eqb (r .phase) sweeping s, le-leb (r .position) b l)
-
-  pub new-behind : (b : ℕ) → r .phase ≢ marking → r .phase ≡ sweeping → b < r .position → white ≡ newColour r b
-  unfolding newColour
-  new-behind b k s l = simp (ne-eqb (r .phase) marking k, eq-eqb (r .phase) sweeping s, lt-leb (r .position) b l)
-
-  pub new-idle : (b : ℕ) → r .phase ≢ marking → r .phase ≢ sweeping → white ≡ newColour r b
-  unfolding newColour
-  new-idle b k s = simp (ne-eqb (r .phase) marking k, ne-eqb (r .phase) sweeping s)
+  new-white b e = simp e
 
 module _ (h : Heap) where
-  pub first-not-free : {c : Colour} (word : ℕ) {t : Bool} → word ≡ colourWord (h .colours) (h .regs .free) → c ≡ colour (h .regs .blocks) word → t ≡ freeColour c → t ≡ false → false ≡ firstFits h
+  pub first-not-free : {t : Bool} → t ≡ isFree (colouring h) (h .regs .free) → t ≡ false → false ≡ firstFits h
   unfolding firstFits
-  first-not-free word w c t f =
-      let e : freeColour (colour (h .regs .blocks) (colourWord (h .colours) (h .regs .free))) ≡ false = rw (← w, ← c) (sym t ∙ f) in
+  first-not-free t f =
+      let e : isFree (colouring h) (h .regs .free) ≡ false = sym t ∙ f in
       simp e
 
-  pub first-link : {c : Colour} (word : ℕ) {t x : Bool} (link : ℕ) → word ≡ colourWord (h .colours) (h .regs .free) → c ≡ colour (h .regs .blocks) word → t ≡ freeColour c → t ≡ true
+  pub first-link : {t x : Bool} (link : ℕ) → t ≡ isFree (colouring h) (h .regs .free) → t ≡ true
       → link ≡ getD (h .words) (base (h .regs .free)) 0 → x ≡ isBlockOrNone (h .regs .blocks) link → x ≡ firstFits h
   unfolding firstFits
-  first-link word link w c t f l x =
-      let e : freeColour (colour (h .regs .blocks) (colourWord (h .colours) (h .regs .free))) ≡ true = rw (← w, ← c) (sym t ∙ f) in
+  first-link link t f l x =
+      let e : isFree (colouring h) (h .regs .free) ≡ true = sym t ∙ f in
       simp e (x ∙ ap (isBlockOrNone (h .regs .blocks)) (l ∙ rw (add-zero (base (h .regs .free))) refl))
 
   pub list-none : h .regs .free ≡ 0 → h .regs .count ≡ 0 → 7 ≡ listRefusal h
@@ -112,8 +105,8 @@ module _ (h : Heap) where
     λ c. by-eq (h .regs .free) 0 (λ f. absurd (omega (arith, list-none f c))) (λ f. absurd (omega (arith, list-counted f c))),
   )
 
-  pub taken-as : {link x : ℕ} (ws cs : List ℕ) → link ≡ getD (h .words) (base (h .regs .free)) 0 → ws ≡ set (h .words) (base (h .regs .free)) 0
-      → x ≡ newColour (h .regs) (h .regs .free) → cs ≡ paint (h .regs .free) x (h .colours)
+  pub taken-as : {link : ℕ} {x : Colour} (ws cs : List ℕ) → link ≡ getD (h .words) (base (h .regs .free)) 0 → ws ≡ set (h .words) (base (h .regs .free)) 0
+      → x ≡ newColour (h .regs) (h .regs .free) → cs ≡ painted (h .regs .free) x (colouring h) .cells
       → heap (withCount (h .regs .count - 1) (withFree link (h .regs))) ws cs (h .bytes) ≡ taken h
   unfolding taken
   taken-as ws cs l w x c = rw (l, w, c, x, add-zero (base (h .regs .free))) refl

@@ -4,8 +4,8 @@
 -- Assumes nothing.
 use Rattle.machine.specs.Tests.{_▷_}
 use Rattle.machine.specs.Block.{isBlock, eightWords, withEight, bit, withBit, withoutBit, referencesFrom}
-use Rattle.machine.specs.Colouring.{colour, greyWhite, greyAll, isAllocated, headLegal}
-use Rattle.machine.specs.Standing.{doomedWhite, standing, standingOf, holderRefusal, targetRefusal}
+use Rattle.machine.specs.Colouring.{colour, colourIn, greyWhite, greyAll, headLegal}
+use Rattle.machine.specs.State.{ahead, stateFrom, stateIn, holderRefusal, targetRefusal, mayBeBlack, newColour}
 use Rattle.machine.specs.Entry.{numbersFit, lengthsFit, fits, isBlockOrNone, positionLegal, legal, entry, wordRefusal, holderPlace, targetPlace}
 use Rattle.machine.specs.Answers.{unless}
 use Rattle.machine.specs.OneUnit.{step, metBlock, metWord, begun, marked, allSound, turned, advance, reclaimed, whitened, passed, act, unit}
@@ -13,20 +13,21 @@ use Rattle.machine.specs.Units.{run}
 use Rattle.machine.specs.Format.{freeList, formatted, format}
 use Rattle.machine.specs.Read.{readRefusal, readAnswer, read}
 use Rattle.machine.specs.Store.{barrier, putNumber, putReference, storeNumber, storeRefusal, storeReference, rootRefusal, setRoot}
-use Rattle.machine.specs.Allocate.{unitsDue, firstFits, listRefusal, newColour, taken, held, takeRefusal, allocated, allocate}
+use Rattle.machine.specs.Allocate.{unitsDue, firstFits, listRefusal, taken, held, takeRefusal, allocated, allocate}
 use Rattle.machine.specs.Several.{frees, headRefusal, firstFrees, listWalks, amongst, distinct, severalRefusal, takeSeveralRefusal, nulled, zeroed, serve, severalTaken}
 use Rattle.machine.specs.Chain.{chainLength, allocateChain}
 use Rattle.machine.specs.Field.{fieldPlace, fieldBlock, linkRefusal, walkRefusal, fieldRefusal, readField, storeFieldNumber, fieldStoreRefusal, storeFieldReference}
 use Rattle.machine.specs.Work.{countRefusal, work}
+use Rattle.machine.specs.Tell.{tellState}
 use Rattle.machine.specs.Session.{does, session, lastOf}
 
 unfoldable pub the-machine : Unit {0}
-unfolding _▷_ isBlock eightWords withEight bit withBit withoutBit referencesFrom colour greyWhite greyAll isAllocated headLegal
-    doomedWhite standing standingOf holderRefusal targetRefusal numbersFit lengthsFit fits isBlockOrNone positionLegal legal entry wordRefusal holderPlace targetPlace unless
+unfolding _▷_ isBlock eightWords withEight bit withBit withoutBit referencesFrom colour colourIn greyWhite greyAll headLegal
+    ahead stateFrom stateIn holderRefusal targetRefusal mayBeBlack newColour numbersFit lengthsFit fits isBlockOrNone positionLegal legal entry wordRefusal holderPlace targetPlace unless
     step metBlock metWord begun marked allSound turned advance reclaimed whitened passed act unit run
     freeList formatted format readRefusal readAnswer read barrier putNumber putReference storeNumber storeRefusal storeReference rootRefusal setRoot
-    unitsDue firstFits listRefusal newColour taken held takeRefusal allocated allocate
+    unitsDue firstFits listRefusal taken held takeRefusal allocated allocate
     frees headRefusal firstFrees listWalks amongst distinct severalRefusal takeSeveralRefusal nulled zeroed serve severalTaken chainLength allocateChain
     fieldPlace fieldBlock linkRefusal walkRefusal fieldRefusal readField storeFieldNumber fieldStoreRefusal storeFieldReference
-    countRefusal work does session lastOf
+    countRefusal work tellState does session lastOf
 the-machine = tt

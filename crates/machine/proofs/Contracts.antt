@@ -46,4 +46,5 @@ no-second-outcome =
       ofStoreFieldReference = λ b k t h. only _;
       ofWork = λ n h. only _;
       ofAudit = λ h. only-audit _;
+      ofState = λ b h. only-audit _;
     }

@@ -23,7 +23,7 @@ use borrow.Author.Tests.{leb-true, le-leb, lt-leb, eq-eqb, ne-eqb}
 use Rattle.machine.specs.Tests.{if_then_else_, _▷_}
 use Rattle.machine.specs.Block.{isBlock, byteOf, bit}
 use Rattle.machine.specs.Heap.{Heap}
-use Rattle.machine.specs.Standing.{holderRefusal, targetRefusal}
+use Rattle.machine.specs.State.{holderRefusal, targetRefusal}
 use Rattle.machine.specs.declared.ReadAnswer.{ReadAnswer}
 use Rattle.machine.specs.Entry.{entry, targetPlace}
 use Rattle.machine.specs.Chain.{link}

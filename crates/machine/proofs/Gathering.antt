@@ -12,7 +12,7 @@ use lib.Dec.{leb, eqb}
 use borrow.Author.Tests.{eq-eqb, ne-eqb, le-leb, lt-leb, leb-true}
 use Rattle.machine.specs.Tests.{if_then_else_, _▷_}
 use Rattle.machine.specs.Heap.{Heap}
-use Rattle.machine.specs.Standing.{holderRefusal}
+use Rattle.machine.specs.State.{holderRefusal}
 use Rattle.machine.specs.Several.{firstFrees, listWalks, distinct, headRefusal, severalRefusal, takeSeveralRefusal}
 use Rattle.machine.proofs.Tests.{both-true, if-true, by-eq}
 use Rattle.machine.proofs.Entering.{first-zero, choose-zero}

@@ -1,7 +1,6 @@
 -- A unit keeps what tests 1 and 2 ask: legal registers and buffers that fit.
---     head-one, head-of-block, head-elsewhere     legal grey heads: 1, a block while marking, and 1 alone outside it
---     next-legal               the word of a grey block is a legal grey head
---     Kept, greyWhite-kept, greyAll-kept     greying keeps a legal grey head and the buffer's length
+--     greyWhite-blocks, greyAll-blocks, greyWhite-kept, greyAll-kept     greying a white block, and all white ones of a list, keeps a layout that fits
+--     recoloured-kept, recolouring, colouring-fits     a heap with another colouring, and the colouring of a heap
 --     advance-kept, begun-kept, marked-kept, turned-kept, reclaimed-kept, whitened-kept     each step keeps Ready
 --     met-grey                 while marking, the block met is the grey head
 --     unit-kept, done-kept, run-kept, ran-kept     a unit, and units in a row, leave a Ready heap Ready
@@ -9,72 +8,72 @@
 use Prim.Native.Nat.{ℕ, zero, suc, _+_, _*_}
 use mathlib.Core.Path.{_≡_, refl, sym, _∙_, ap, subst}
 use mathlib.Core.Logic.{_≢_}
-use mathlib.Core.Bool.{Bool, true, false, _&&_, _||_}
+use mathlib.Core.Bool.{true}
 use mathlib.Core.List.{List, [], _∷_}
 use native.Mathlib.Omega.{arith}
-use lib.Dec.{eqb, leb}
+use lib.Dec.{eqb}
 use lib.ListN.{length, length-set, length-append, length-take, length-drop}
-use borrow.Author.Tests.{eq-eqb, ne-eqb, eqb-false, le-leb}
+use borrow.Author.Tests.{eq-eqb, ne-eqb, eqb-false}
 use Rattle.machine.specs.declared.Regs.{Regs}
-use Rattle.machine.specs.declared.Colour.the-variants.{Grey}
+use Rattle.machine.specs.declared.Colour.{Colour}
+use Rattle.machine.specs.declared.Colour.the-variants.{White, Grey, Free}
 use Rattle.machine.specs.declared.Progress.{Progress}
 use Rattle.machine.specs.declared.Progress.the-variants.{Done}
 use Rattle.machine.specs.Registers.{idle, marking, sweeping, withPhase, withCycle, nextCycle, sweepEnd}
-use Rattle.machine.specs.Block.{isBlock, withEight, freeWords, clearByte}
-use Rattle.machine.specs.Colouring.{Colouring, white, black, freed, colour, colourWord, paint, toBlack, greyWhite, greyAll, headLegal}
-use Rattle.machine.specs.Heap.{Heap, heap, colouring, withRegs, withColouring, referencesOf}
+use Rattle.machine.specs.Block.{withEight, freeWords, clearByte}
+use Rattle.machine.specs.Colouring.{Colouring, colour, colourIn, whiteColour, painted, toGrey, toBlack, firstGrey, greyWhite, greyAll, headLegal}
+use Rattle.machine.specs.Heap.{Heap, heap, colouring, colourOf, withRegs, withColouring, referencesOf}
 use Rattle.machine.specs.WellFormed.{Block}
 use Rattle.machine.specs.Ready.{Ready}
+use Rattle.machine.specs.Layout.{Fitting}
 use Rattle.machine.specs.OneUnit.{UnitEnd, metBlock, metWord, begun, marked, allSound, turned, advance, reclaimed, whitened, passed, act, unit, ended}
 use Rattle.machine.specs.Units.{RunEnd, run}
-use Rattle.machine.proofs.Tests.{both-true, by-test, by-eq, if-ind}
-use Rattle.machine.proofs.Blocks.{isBlock-block, block-isBlock}
-use Rattle.machine.proofs.Colours.{head-block}
-use Rattle.machine.proofs.Steps.{never, step-cases}
+use Rattle.machine.proofs.Tests.{by-eq, if-ind, clash}
+use Rattle.machine.proofs.Blocks.{block-isBlock}
+use Rattle.machine.proofs.Linked.{linked}
+use Rattle.machine.proofs.Steps.{step-cases}
 use Rattle.machine.proofs.Setting.{ready-words, ready-colours, ready-bytes, ready-grey, ready-free, ready-count, ready-cycle, ready-course}
 
--- legal grey heads
-pub head-one : (m p : ℕ) → headLegal m p 1 ≡ true
-unfolding headLegal
-head-one m p = refl
-
-pub head-of-block : (m b : ℕ) → Block m b → headLegal m marking b ≡ true
-unfolding headLegal
-head-of-block m b l = go (eqb b 1)
-  where
-    go : (t : Bool) → (t || isBlock m b) ≡ true
-    go true = refl
-    go false = block-isBlock m b l
-
-pub head-elsewhere : (m p g : ℕ) → p ≢ marking → headLegal m p g ≡ true → g ≡ 1
-head-elsewhere m p g n e = by-eq g 1 (λ z. z) (λ o. absurd (n (head-block m p g e o .0)))
-
-pub record Kept (m n : ℕ) (k : Colouring) : Type 0 where
-  pub legal : headLegal m marking (k .head) ≡ true
-  pub same : length (k .cells) ≡ n
-
-pub greyWhite-kept : (m b n : ℕ) (k : Colouring) → Kept m n k → Kept m n (greyWhite m b k)
+pub greyWhite-blocks : (b : ℕ) (k : Colouring) → greyWhite b k .blocks ≡ k .blocks
 unfolding greyWhite
-greyWhite-kept m b n k d =
-    if-ind (Kept m n) (isBlock m b && eqb (colourWord (k .cells) b) white)
-    (λ e. record { legal = head-of-block m b (isBlock-block m b (both-true (isBlock m b) (eqb (colourWord (k .cells) b) white) e .0)); same = simp length-set (d .same) })
+greyWhite-blocks b k = if-ind (λ (j : Colouring). j .blocks ≡ k .blocks) (whiteColour (colourIn k b)) (λ e. refl) (λ e. refl)
+
+pub greyWhite-kept : (b : ℕ) (k : Colouring) → Fitting k → Fitting (greyWhite b k)
+unfolding greyWhite
+greyWhite-kept b k d =
+    if-ind Fitting (whiteColour (colourIn k b))
+    (λ e. linked .greyKeeps k b d (linked .inside k b (λ o. clash e (rw o refl))))
     (λ e. d)
 
-pub greyAll-kept : (m n : ℕ) (bs : List ℕ) (k : Colouring) → Kept m n k → Kept m n (greyAll m bs k)
+pub greyAll-blocks : (bs : List ℕ) (k : Colouring) → greyAll bs k .blocks ≡ k .blocks
 unfolding greyAll
-greyAll-kept m n [] k d = d
-greyAll-kept m n (b ∷ bs) k d = greyAll-kept m n bs (greyWhite m b k) (greyWhite-kept m b n k d)
+greyAll-blocks [] k = refl
+greyAll-blocks (b ∷ bs) k = greyAll-blocks bs (greyWhite b k) ∙ greyWhite-blocks b k
 
--- the word of a grey block is a legal grey head
-pub next-legal : (m word : ℕ) → colour m word ≡ Grey → headLegal m marking word ≡ true
-unfolding colour headLegal isBlock
-next-legal m word e =
-    by-eq word white (λ z. never (cc (simp (eq-eqb word white z) at e))) (λ w.
-    by-eq word black (λ z. never (cc (rw z at e))) (λ k.
-    by-eq word freed (λ z. never (cc (rw z at e))) (λ f.
-    by-test (leb word (m + 1))
-    (λ t. by-eq word 1 (λ o. simp (eq-eqb word 1 o)) (λ o. simp (ne-eqb word 1 o, t, le-leb 2 word (omega arith))))
-    (λ t. never (cc (simp (ne-eqb word white w, ne-eqb word black k, ne-eqb word freed f, t) at e))))))
+pub greyAll-kept : (bs : List ℕ) (k : Colouring) → Fitting k → Fitting (greyAll bs k)
+unfolding greyAll
+greyAll-kept [] k d = d
+greyAll-kept (b ∷ bs) k d = greyAll-kept bs (greyWhite b k) (greyWhite-kept b k d)
+
+-- a heap with another colouring of as many blocks
+pub recoloured-kept : (h : Heap) → Ready h → (k : Colouring) → h .regs .phase ≡ marking → k .blocks ≡ h .regs .blocks → Fitting k → Ready (withColouring k h)
+recoloured-kept h d k s e f =
+    ready-colours (ready-grey d (k .head) (rw (s, ← e) (f .head))) (k .cells) (f .cells ∙ e ∙ sym (d .colours))
+
+-- its colouring is then that one
+pub recolouring : (h : Heap) (k : Colouring) → k .blocks ≡ h .regs .blocks → colouring (withColouring k h) ≡ k
+recolouring h k e = rw (← e) refl
+
+-- the layout of a heap fits; away from marking the grey head is 1, which is legal while marking too
+pub colouring-fits : (h : Heap) → Ready h → Fitting (colouring h)
+colouring-fits h d = record { most = d .most; cells = d .colours; head = head }
+  where
+    head : headLegal (h .regs .blocks) marking (h .regs .grey) ≡ true
+    head = by-eq (h .regs .phase) marking (λ s. rw (← s) (d .grey)) (λ n. rw (linked .rest _ _ _ n (d .grey)) (linked .one (h .regs .blocks) marking))
+
+-- painting keeps the length of the colour buffer
+cells-kept : (h : Heap) → Ready h → (b : ℕ) (c : Colour) → length (painted b c (colouring h) .cells) ≡ length (h .colours)
+cells-kept h d b c = linked .paintKeeps (colouring h) b c (colouring-fits h d) .cells ∙ sym (d .colours)
 
 -- the buffer with a block's eight words replaced is as long as it was
 length-eight : (m : ℕ) (ws : List ℕ) (b x : ℕ) → Block m b → length ws ≡ 8 * m → length (withEight ws b (freeWords x)) ≡ length ws
@@ -89,7 +88,7 @@ advance-kept h d s =
     if-ind (λ (r : Regs). Ready (withRegs r h)) (eqb (h .regs .position) (sweepEnd (h .regs)))
     (λ e.
     ready-course d idle 0
-    (record { phase = omega arith; grey = rw (head-elsewhere _ _ _ off (d .grey)) (head-one _ _); placed = λ z. absurd (omega arith); parked = λ z. refl }))
+    (record { phase = omega arith; grey = rw (linked .rest _ _ _ off (d .grey)) (linked .one _ _); placed = λ z. absurd (omega arith); parked = λ z. refl }))
     (λ e.
     let n : h .regs .position ≢ sweepEnd (h .regs) = eqb-false _ _ e in
     let p = d .placed s in
@@ -103,32 +102,33 @@ begun-kept h d i =
     let still : h .regs .phase ≢ sweeping = λ z. absurd (omega arith) in
     let c : Ready (withRegs (withPhase marking (withCycle (nextCycle (h .regs .cycle)) (h .regs))) h) =
     ready-course (ready-cycle d (nextCycle (h .regs .cycle))) marking (h .regs .position)
-    (record { phase = omega arith; grey = rw (head-elsewhere _ _ _ off (d .grey)) (head-one _ _); placed = λ z. absurd (omega arith); parked = λ z. d .parked still }) in
+    (record { phase = omega arith; grey = rw (linked .rest _ _ _ off (d .grey)) (linked .one _ _); placed = λ z. absurd (omega arith); parked = λ z. d .parked still }) in
     if-ind (λ (k : Colouring). Ready (withColouring k (withRegs (withPhase marking (withCycle (nextCycle (h .regs .cycle)) (h .regs))) h))) (eqb (h .regs .root) 0)
     (λ e. c)
-    (λ e. ready-colours (ready-grey c (h .regs .root) (head-of-block _ _ (d .root (eqb-false _ _ e)))) _ (simp length-set))
+    (λ e.
+    recoloured-kept _ c (toGrey (h .regs .root) (colouring h)) refl refl
+    (linked .greyKeeps (colouring h) (h .regs .root) (colouring-fits h d) (d .root (eqb-false _ _ e))))
 
-pub marked-kept : (h : Heap) → Ready h → h .regs .phase ≡ marking → Block (h .regs .blocks) (h .regs .grey)
-    → colour (h .regs .blocks) (colourWord (h .colours) (h .regs .grey)) ≡ Grey → Ready (marked h)
+pub marked-kept : (h : Heap) → Ready h → h .regs .phase ≡ marking → colourOf h (firstGrey (colouring h)) ≡ Grey → Ready (marked h)
 unfolding marked
-marked-kept h d s l g =
-    let k =
-    greyAll-kept (h .regs .blocks) (h .regs .blocks) (referencesOf h (h .regs .grey)) (toBlack (colouring h))
-    (record { legal = next-legal _ _ g; same = simp length-set (d .colours) }) in
-    ready-colours (ready-grey d _ (rw s (k .legal))) _ (k .same ∙ sym (d .colours))
+marked-kept h d s g =
+    recoloured-kept h d (greyAll (referencesOf h (firstGrey (colouring h))) (toBlack (colouring h))) s
+    (greyAll-blocks (referencesOf h (firstGrey (colouring h))) (toBlack (colouring h)))
+    (greyAll-kept _ _ (linked .blackKeeps (colouring h) (colouring-fits h d) g))
 
--- while marking, the block met is the grey head
-pub met-grey : (h : Heap) → h .regs .phase ≡ marking → Block (h .regs .blocks) (h .regs .grey)
-    → colour (h .regs .blocks) (colourWord (h .colours) (h .regs .grey)) ≡ colour (h .regs .blocks) (metWord h)
+-- while marking, the block met is the first grey one
+pub met-grey : (h : Heap) → h .regs .phase ≡ marking → Block (h .regs .blocks) (firstGrey (colouring h)) → colourOf h (firstGrey (colouring h)) ≡ colour (h .regs .blocks) (metWord h)
 unfolding metWord metBlock
-met-grey h k b = simp (ne-eqb (h .regs .phase) idle (λ z. absurd (omega arith)), eq-eqb (h .regs .phase) marking k, block-isBlock _ _ b)
+met-grey h k b =
+    (linked .word (colouring h) (firstGrey (colouring h)) b
+    ∙ simp (ne-eqb (h .regs .phase) idle (λ z. absurd (omega arith)), eq-eqb (h .regs .phase) marking k, block-isBlock _ _ b))
 
 pub turned-kept : (h : Heap) → Ready h → h .regs .grey ≡ 1 → Ready (turned h)
 unfolding turned
 turned-kept h d g =
     let b = d .some in
     ready-course d sweeping 2
-    (record { phase = omega arith; grey = rw g (head-one _ _); placed = λ z. (omega arith, omega arith); parked = λ z. absurd (z refl) })
+    (record { phase = omega arith; grey = rw g (linked .one _ _); placed = λ z. (omega arith, omega arith); parked = λ z. absurd (z refl) })
 
 pub reclaimed-kept : (h : Heap) → Ready h → h .regs .phase ≡ sweeping → h .regs .count ≢ h .regs .blocks → Ready (reclaimed h)
 unfolding reclaimed
@@ -141,13 +141,13 @@ reclaimed-kept h d s n =
     (ready-colours
     (ready-bytes (ready-count (ready-free d (h .regs .position) (λ z. b)) (h .regs .count + 1) (omega arith))
     (clearByte (h .bytes) (h .regs .position)) (simp length-set))
-    (paint (h .regs .position) freed (h .colours)) (simp length-set))
+    (painted (h .regs .position) Free (colouring h) .cells) (cells-kept h d (h .regs .position) Free))
     (withEight (h .words) (h .regs .position) (freeWords (h .regs .free))) (length-eight _ _ _ _ b (d .words)))
     s
 
 pub whitened-kept : (h : Heap) → Ready h → h .regs .phase ≡ sweeping → Ready (whitened h)
 unfolding whitened
-whitened-kept h d s = advance-kept _ (ready-colours d (paint (h .regs .position) white (h .colours)) (simp length-set)) s
+whitened-kept h d s = advance-kept _ (ready-colours d (painted (h .regs .position) White (colouring h) .cells) (cells-kept h d (h .regs .position) White)) s
 
 pub unit-kept : (h : Heap) → Ready h → Ready (unit h .heap)
 unfolding unit act passed
@@ -156,9 +156,9 @@ unit-kept h d =
     (λ i w. begun-kept h d i)
     (λ k o. turned-kept h d o)
     (λ k o c.
-    let b = head-block _ _ _ (d .grey) o .1 in
-    if-ind (λ (e : UnitEnd). Ready (e .heap)) (allSound (h .regs .blocks) (h .colours) (referencesOf h (h .regs .grey)))
-    (λ a. marked-kept h d k b (met-grey h k b ∙ c))
+    let b = linked .firstBlock (colouring h) (colouring-fits h d) o in
+    if-ind (λ (e : UnitEnd). Ready (e .heap)) (allSound (colouring h) (referencesOf h (firstGrey (colouring h))))
+    (λ a. marked-kept h d k (met-grey h k b ∙ c))
     (λ a. d))
     (λ s c.
     if-ind (λ (e : UnitEnd). Ready (e .heap)) (eqb (h .regs .count) (h .regs .blocks))

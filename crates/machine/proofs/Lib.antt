@@ -2,13 +2,21 @@
 pub mod Tests
 pub mod Rounding
 pub mod Blocks
+pub mod Hues
 pub mod Lists
+pub mod Listing
+pub mod Counting
+pub mod Exact
+pub mod Chains
 pub mod Entering
 pub mod Refusals
+pub mod States
 pub mod Reading
 pub mod Storing
 pub mod Fields
 pub mod Colours
+pub mod Fits
+pub mod Linked
 pub mod Bytes
 pub mod Steps
 pub mod Parts
@@ -19,6 +27,7 @@ pub mod Sweeping
 pub mod Running
 pub mod Setting
 pub mod Kept
+pub mod Meeting
 pub mod Formats
 pub mod Working
 pub mod Allocating
@@ -29,6 +38,7 @@ pub mod Chaining
 pub mod Audits
 pub mod References
 pub mod Passing
+pub mod Telling
 pub mod Computing
 pub mod Cases
 pub mod Contracts

@@ -17,7 +17,7 @@ use Rattle.machine.specs.declared.Step.the-variants.{Mark}
 use Rattle.machine.specs.declared.Progress.the-variants.{Done, Damaged}
 use Rattle.machine.specs.Registers.{withGrey}
 use Rattle.machine.specs.Block.{byteOf, eightWords, references}
-use Rattle.machine.specs.Colouring.{Colouring, toBlack, greyWhite, greyAll}
+use Rattle.machine.specs.Colouring.{Colouring, coloured, toBlack, greyWhite, greyAll}
 use Rattle.machine.specs.Heap.{heap}
 use Rattle.machine.specs.WellFormed.{Block}
 use Rattle.machine.specs.OneUnit.{sound, allSound, marked, act, ended}
@@ -29,17 +29,17 @@ module _ (part : List ℕ) (rest t : ℕ) (f : rest < 256) (n : rest ≢ 0) (e :
   abbrev left : List ℕ
   left = references part (rest - 1 * 2 ^ t % 4294967296)
 
-  pub sound-on : (m : ℕ) (cs : List ℕ) → sound m cs (getD part t 0) ≡ true → allSound m cs (references part rest) ≡ allSound m cs left
+  pub sound-on : (k : Colouring) → sound k (getD part t 0) ≡ true → allSound k (references part rest) ≡ allSound k left
   unfolding allSound
-  sound-on m cs s = rw (word-first part rest t f n e, s) refl
+  sound-on k s = rw (word-first part rest t f n e, s) refl
 
-  pub sound-off : (m : ℕ) (cs : List ℕ) → sound m cs (getD part t 0) ≡ false → allSound m cs (references part rest) ≡ false
+  pub sound-off : (k : Colouring) → sound k (getD part t 0) ≡ false → allSound k (references part rest) ≡ false
   unfolding allSound
-  sound-off m cs s = rw (word-first part rest t f n e, s) refl
+  sound-off k s = rw (word-first part rest t f n e, s) refl
 
-  pub grey-on : (m : ℕ) (k : Colouring) {j : Colouring} → j ≡ greyWhite m (getD part t 0) k → greyAll m (references part rest) k ≡ greyAll m left j
+  pub grey-on : (k : Colouring) {j : Colouring} → j ≡ greyWhite (getD part t 0) k → greyAll (references part rest) k ≡ greyAll left j
   unfolding greyAll
-  grey-on m k {j} s = rw (word-first part rest t f n e, s) refl
+  grey-on k {j} s = rw (word-first part rest t f n e, s) refl
 
   pub named-here : (m : ℕ) → Named m (references part rest) → getD part t 0 ≢ 0 → Block m (getD part t 0)
   named-here m a = subst (Named m) (word-first part rest t f n e) a .0
@@ -48,25 +48,28 @@ module _ (part : List ℕ) (rest t : ℕ) (f : rest < 256) (n : rest ≢ 0) (e :
   named-on m a = subst (Named m) (word-first part rest t f n e) a .1
 
 module _ (part : List ℕ) (rest : ℕ) (z : rest ≡ 0) where
-  pub sound-end : (m : ℕ) (cs : List ℕ) → allSound m cs (references part rest) ≡ true
+  pub sound-end : (k : Colouring) → allSound k (references part rest) ≡ true
   unfolding allSound
-  sound-end m cs = rw (none-left part rest z) refl
+  sound-end k = rw (none-left part rest z) refl
 
-  pub grey-end : (m : ℕ) (k : Colouring) → k ≡ greyAll m (references part rest) k
+  pub grey-end : (k : Colouring) → k ≡ greyAll (references part rest) k
   unfolding greyAll
-  grey-end m k = rw (none-left part rest z) refl
+  grey-end k = rw (none-left part rest z) refl
 
 module _ (r : Regs) (ws cs bs part : List ℕ) (same : part ≡ eightWords ws (r .grey)) where
   abbrev refs : List ℕ
   refs = references part (byteOf bs (r .grey))
 
+  abbrev here : Colouring
+  here = coloured (r .blocks) (r .grey) cs
+
   -- the code greys over some of the references, which changes as much as greying over all of them
-  pub mark-done : {n : ℕ} → n ≡ r .blocks → {k j : Colouring} {s : Regs} → allSound (r .blocks) cs refs ≡ true
-      → k ≡ toBlack (record { head = r .grey; cells = cs }) → j ≡ greyAll n refs k → s ≡ withGrey (j .head) r
+  pub mark-done : {k j : Colouring} {s : Regs} → allSound here refs ≡ true
+      → k ≡ toBlack here → j ≡ greyAll refs k → s ≡ withGrey (j .head) r
       → ended r (Done s) ws (j .cells) bs ≡ act Mark (heap r ws cs bs)
   unfolding act ended marked
-  mark-done m a b g q = simp (rw same at a) (rw (q, g, m, b, same) refl)
+  mark-done a b g q = simp (rw same at a) (rw (q, g, b, same) refl)
 
-  pub mark-damaged : allSound (r .blocks) cs refs ≡ false → ended r Damaged ws cs bs ≡ act Mark (heap r ws cs bs)
+  pub mark-damaged : allSound here refs ≡ false → ended r Damaged ws cs bs ≡ act Mark (heap r ws cs bs)
   unfolding act ended
   mark-damaged a = simp (rw same at a)

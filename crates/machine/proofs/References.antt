@@ -15,22 +15,23 @@ use lib.ListN.{getD}
 use borrow.Author.Tests.{eq-eqb, ne-eqb}
 use Rattle.machine.specs.declared.Regs.{Regs}
 use Rattle.machine.specs.Block.{references}
+use Rattle.machine.specs.Colouring.{Colouring}
 use Rattle.machine.specs.Audit.{mayName, mayNameAll, zeroFrom}
 use Rattle.machine.proofs.Tests.{by-eq}
 use Rattle.machine.proofs.LowestBit.{word-first, none-left}
 
-module _ (r : Regs) (cs : List ℕ) (s : Bool) (part : List ℕ) (rest : ℕ) where
+module _ (r : Regs) (k : Colouring) (s : Bool) (part : List ℕ) (rest : ℕ) where
   module _ (t : ℕ) (f : rest < 256) (n : rest ≢ 0) (e : t ≡ trailingZeros 32 rest) where
-    pub names-on : mayName r cs s (getD part t 0) ≡ true
-        → mayNameAll r cs s (references part rest) ≡ mayNameAll r cs s (references part (rest - 1 * 2 ^ t % 4294967296))
+    pub names-on : mayName r k s (getD part t 0) ≡ true
+        → mayNameAll r k s (references part rest) ≡ mayNameAll r k s (references part (rest - 1 * 2 ^ t % 4294967296))
     unfolding mayNameAll
     names-on h = rw (word-first part rest t f n e, h) refl
 
-    pub names-off : mayName r cs s (getD part t 0) ≡ false → mayNameAll r cs s (references part rest) ≡ false
+    pub names-off : mayName r k s (getD part t 0) ≡ false → mayNameAll r k s (references part rest) ≡ false
     unfolding mayNameAll
     names-off h = rw (word-first part rest t f n e, h) refl
 
-  pub names-end : rest ≡ 0 → mayNameAll r cs s (references part rest) ≡ true
+  pub names-end : rest ≡ 0 → mayNameAll r k s (references part rest) ≡ true
   unfolding mayNameAll
   names-end z = rw (none-left part rest z) refl
 

@@ -5,13 +5,13 @@
 --     word-fits, word-high, word-no-block     the three ways of wordRefusal
 --     no-holder, no-holder-word, holder-block     the three ways of holderPlace: the root, no block but a word, a block
 --     target-fits, target-off  the two ways of targetPlace
---     white-doomed, white-stays     the two ways of standing for a white block
---     standing-as, holder-as, target-none, target-as     the standing of a block, and the refusals by it
+--     white-doomed, white-stays     the two ways of stateFrom for a white block
+--     state-as, holder-as, target-none, target-as     the state of a number, and the refusals by it
 --     Readable, readable       what a refusal number 0 of Read establishes
---     word-zero, target-zero, target-within     what a refusal number 0 of wordRefusal and of targetPlace establishes
+--     word-zero, target-zero     what a refusal number 0 of wordRefusal and of targetPlace establishes
 --     holder-live, target-live     what a refusal number 0 of holderRefusal and of targetRefusal establishes
---     within-layout            the standing of a block of legal colour is not Damaged
---     holder-undamaged, target-undamaged     holderRefusal and targetRefusal give 8 for a Damaged block only
+--     within-layout            the state of a block of legal colour is not Outside
+--     holder-undamaged, target-undamaged     holderRefusal and targetRefusal give 8 outside the layout only
 -- Assumes nothing.
 use Prim.Native.Nat.{ℕ, _≤_, _<_}
 use mathlib.Core.Path.{_≡_, refl, sym, _∙_}
@@ -22,19 +22,19 @@ use lib.Dec.{leb}
 use borrow.Author.Tests.{leb-true, le-leb, lt-leb, eq-eqb, ne-eqb}
 use Rattle.machine.specs.declared.Regs.{Regs}
 use Rattle.machine.specs.declared.Colour.{Colour}
-use Rattle.machine.specs.declared.Colour.the-variants.{White, Grey, Black, Free, Outside}
-use Rattle.machine.specs.declared.Standing.{Standing}
-use Rattle.machine.specs.declared.Standing.the-variants.{Live, Gone, Damaged}
+use Rattle.machine.specs.declared.Colour.the-variants as colours
+use Rattle.machine.specs.declared.State.{State}
+use Rattle.machine.specs.declared.State.the-variants.{LiveWhite, Doomed, Grey, Black, Free, Outside}
 use Rattle.machine.specs.Tests.{_▷_}
 use Rattle.machine.specs.Block.{isBlock}
-use Rattle.machine.specs.Colouring.{colour, colourWord}
+use Rattle.machine.specs.Colouring.{Colouring, colourIn}
 use Rattle.machine.specs.Heap.{Heap}
-use Rattle.machine.specs.Standing.{doomedWhite, standing, standingOf, refusalOf, holderRefusal, targetRefusal}
+use Rattle.machine.specs.State.{ahead, stateFrom, stateIn, stateOf, isLive, refusalOf, holderRefusal, targetRefusal}
 use Rattle.machine.specs.Entry.{numbersFit, lengthsFit, fits, heapFits, isBlockOrNone, legal, entry, wordRefusal, holderPlace, targetPlace}
 use Rattle.machine.specs.Read.{readRefusal}
 use Rattle.machine.specs.WellFormed.{Block}
 use Rattle.machine.specs.Ready.{Ready}
-use Rattle.machine.proofs.Tests.{both-true, by-eq, if-ind}
+use Rattle.machine.proofs.Tests.{both-true, by-eq, if-ind, clash}
 use Rattle.machine.proofs.Blocks.{isBlock-block}
 use Rattle.machine.proofs.Steps.{never}
 use Rattle.machine.proofs.Entering.{first-zero, choose-zero, entry-ready}
@@ -112,25 +112,21 @@ module _ (m t : ℕ) where
   unfolding targetPlace
   target-zero e = choose-zero (isBlockOrNone m t) 4 (omega arith) e
 
--- a target of m blocks, where a buffer has m entries
-pub target-within : {m n : ℕ} (t : ℕ) → n ≡ m → targetPlace m t ≡ 0 → isBlockOrNone n t ≡ true
-target-within {m} {n} t e z = rw e (target-zero m t z)
-
 module _ (r : Regs) (b : ℕ) where
-  pub white-doomed : doomedWhite r b ≡ true → Gone ≡ standing r b White
-  unfolding standing
+  pub white-doomed : ahead r b ≡ true → Doomed ≡ stateFrom r b colours.White
+  unfolding stateFrom
   white-doomed e = simp e
 
-  pub white-stays : doomedWhite r b ≡ false → Live ≡ standing r b White
-  unfolding standing
+  pub white-stays : ahead r b ≡ false → LiveWhite ≡ stateFrom r b colours.White
+  unfolding stateFrom
   white-stays e = simp e
 
-module _ (h : Heap) (b : ℕ) where
-  pub standing-as : (s : Standing) (c : Colour) (word : ℕ) → word ≡ colourWord (h .colours) b → c ≡ colour (h .regs .blocks) word → s ≡ standing (h .regs) b c → s ≡ standingOf h b
-  unfolding standingOf
-  standing-as s c word w k e = rw (e, k, w) refl
+  pub state-as : (k : Colouring) (s : State) (c : Colour) → c ≡ colourIn k b → s ≡ stateFrom r b c → s ≡ stateIn r k b
+  unfolding stateIn
+  state-as k s c i e = rw (e, i) refl
 
-  pub holder-as : (n : ℕ) (s : Standing) → s ≡ standingOf h b → n ≡ refusalOf 5 s → n ≡ holderRefusal h b
+module _ (h : Heap) (b : ℕ) where
+  pub holder-as : (n : ℕ) (s : State) → s ≡ stateOf h b → n ≡ refusalOf 5 s → n ≡ holderRefusal h b
   unfolding holderRefusal
   holder-as n s e f = rw (f, e) refl
 
@@ -138,7 +134,7 @@ module _ (h : Heap) (b : ℕ) where
   unfolding targetRefusal
   target-none z = simp (eq-eqb b 0 z)
 
-  pub target-as : (n : ℕ) (s : Standing) → b ≢ 0 → s ≡ standingOf h b → n ≡ refusalOf 6 s → n ≡ targetRefusal h b
+  pub target-as : (n : ℕ) (s : State) → b ≢ 0 → s ≡ stateOf h b → n ≡ refusalOf 6 s → n ≡ targetRefusal h b
   unfolding targetRefusal
   target-as n s z e f = rw (f, e) (simp (ne-eqb b 0 z))
 
@@ -156,41 +152,59 @@ readable h b w e =
     let z = word-zero (h .regs .blocks) b w (p .0) in
     record { ready = entry-ready h (a .0); block = z .0; low = z .1 }
 
--- the refusal by a block's standing
-refused-not : (n : ℕ) (s : Standing) → n ≢ 0 → refusalOf n s ≡ 0 → s ≡ Live
-refused-not n Live z e = refl
-refused-not n Gone z e = absurd (z e)
-refused-not n Damaged z e = absurd (omega arith)
+-- the refusal by a state
+refused-not : (n : ℕ) (s : State) → n ≢ 0 → refusalOf n s ≡ 0 → isLive s ≡ true
+refused-not n LiveWhite z e = refl
+refused-not n Doomed z e = absurd (z e)
+refused-not n Grey z e = refl
+refused-not n Black z e = refl
+refused-not n Free z e = absurd (z e)
+refused-not n Outside z e = absurd (omega arith)
 
-refused-8 : (n : ℕ) (s : Standing) → n ≢ 8 → s ≢ Damaged → refusalOf n s ≢ 8
-refused-8 n Live z d e = absurd (omega arith)
-refused-8 n Gone z d e = z e
-refused-8 n Damaged z d e = d refl
+pub live-unrefused : (n : ℕ) (s : State) → isLive s ≡ true → refusalOf n s ≡ 0
+live-unrefused n LiveWhite e = refl
+live-unrefused n Doomed e = clash e refl
+live-unrefused n Grey e = refl
+live-unrefused n Black e = refl
+live-unrefused n Free e = clash e refl
+live-unrefused n Outside e = clash e refl
 
-pub within-layout : (r : Regs) (b : ℕ) (c : Colour) → c ≢ Outside → standing r b c ≢ Damaged
-unfolding standing
-within-layout r b White n = if-ind (λ (s : Standing). s ≢ Damaged) (doomedWhite r b) (λ t z. never (cc)) (λ t z. never (cc))
-within-layout r b Grey n = λ z. never (cc)
-within-layout r b Black n = λ z. never (cc)
-within-layout r b Free n = λ z. never (cc)
-within-layout r b Outside n = λ z. n refl
+refused-8 : (n : ℕ) (s : State) → n ≢ 8 → s ≢ Outside → refusalOf n s ≢ 8
+refused-8 n LiveWhite z d e = absurd (omega arith)
+refused-8 n Doomed z d e = z e
+refused-8 n Grey z d e = absurd (omega arith)
+refused-8 n Black z d e = absurd (omega arith)
+refused-8 n Free z d e = z e
+refused-8 n Outside z d e = d refl
+
+from-layout : (r : Regs) (b : ℕ) (c : Colour) → c ≢ colours.Outside → stateFrom r b c ≢ Outside
+unfolding stateFrom
+from-layout r b colours.White n = if-ind (λ (s : State). s ≢ Outside) (ahead r b) (λ t z. never (cc)) (λ t z. never (cc))
+from-layout r b colours.Grey n = λ z. never (cc)
+from-layout r b colours.Black n = λ z. never (cc)
+from-layout r b colours.Free n = λ z. never (cc)
+from-layout r b colours.Outside n = λ z. n refl
+
+pub within-layout : (r : Regs) (k : Colouring) (b : ℕ) → colourIn k b ≢ colours.Outside → stateIn r k b ≢ Outside
+unfolding stateIn
+within-layout r k b n = from-layout r b (colourIn k b) n
 
 module _ (h : Heap) (b : ℕ) where
-  pub holder-live : holderRefusal h b ≡ 0 → standingOf h b ≡ Live
+  pub holder-live : holderRefusal h b ≡ 0 → isLive (stateOf h b) ≡ true
   unfolding holderRefusal
-  holder-live e = refused-not 5 (standingOf h b) (omega arith) e
+  holder-live e = refused-not 5 (stateOf h b) (omega arith) e
 
-  pub target-live : targetRefusal h b ≡ 0 → b ≢ 0 → standingOf h b ≡ Live
+  pub target-live : targetRefusal h b ≡ 0 → b ≢ 0 → isLive (stateOf h b) ≡ true
   unfolding targetRefusal
-  target-live e z = refused-not 6 (standingOf h b) (omega arith) (simp (ne-eqb b 0 z) at e)
+  target-live e z = refused-not 6 (stateOf h b) (omega arith) (simp (ne-eqb b 0 z) at e)
 
-  pub holder-undamaged : standingOf h b ≢ Damaged → holderRefusal h b ≢ 8
+  pub holder-undamaged : stateOf h b ≢ Outside → holderRefusal h b ≢ 8
   unfolding holderRefusal
-  holder-undamaged d = refused-8 5 (standingOf h b) (omega arith) d
+  holder-undamaged d = refused-8 5 (stateOf h b) (omega arith) d
 
-  pub target-undamaged : (b ≢ 0 → standingOf h b ≢ Damaged) → targetRefusal h b ≢ 8
+  pub target-undamaged : (b ≢ 0 → stateOf h b ≢ Outside) → targetRefusal h b ≢ 8
   unfolding targetRefusal
   target-undamaged d =
       by-eq b 0
       (λ z e. absurd (omega (arith, simp (eq-eqb b 0 z) at e)))
-      (λ z. simp (ne-eqb b 0 z) (refused-8 6 (standingOf h b) (omega arith) (d z)))
+      (λ z. simp (ne-eqb b 0 z) (refused-8 6 (stateOf h b) (omega arith) (d z)))

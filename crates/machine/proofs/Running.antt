@@ -18,43 +18,43 @@ use Rattle.machine.specs.declared.Step.{Step}
 use Rattle.machine.specs.Tests.{if_then_else_}
 use Rattle.machine.specs.Registers.{idle, marking, sweeping}
 use Rattle.machine.specs.Block.{isBlock}
-use Rattle.machine.specs.Colouring.{white, colourWord}
-use Rattle.machine.specs.Heap.{Heap, heap, referencesOf}
+use Rattle.machine.specs.Colouring.{Colouring, coloured, white, colourWord, wordIn, firstGrey}
+use Rattle.machine.specs.Heap.{Heap, heap, colouring, referencesOf}
 use Rattle.machine.specs.WellFormed.{Block}
 use Rattle.machine.specs.Ready.{Ready}
-use Rattle.machine.specs.OneUnit.{UnitEnd, step, metBlock, metWord, allSound, marked, act, unit}
+use Rattle.machine.specs.OneUnit.{UnitEnd, step, metBlock, wordMet, metWord, allSound, marked, act, unit}
 use Rattle.machine.proofs.Tests.{if-ind}
 use Rattle.machine.proofs.Blocks.{block-isBlock}
 use Rattle.machine.proofs.Colours.{head-block}
 use Rattle.machine.proofs.Steps.{step-cases}
 
 -- the word read of a block is that of the block met, where it is the block met
-module _ (m : ℕ) (r : Regs) (cs : List ℕ) {b word : ℕ} (e : metBlock r ≡ b) where
-  pub met-as : word ≡ (if isBlock m b then colourWord cs b else white) → word ≡ (if isBlock m (metBlock r) then colourWord cs (metBlock r) else white)
+module _ (r : Regs) (k : Colouring) {b word : ℕ} (e : metBlock r k ≡ b) where
+  pub met-as : word ≡ (if isBlock (k .blocks) b then wordIn k b else white) → word ≡ wordMet r k
   met-as w = w ∙ rw e refl
 
-  pub met-at : Block m b → word ≡ colourWord cs b → word ≡ (if isBlock m (metBlock r) then colourWord cs (metBlock r) else white)
-  met-at l w = w ∙ rw e (simp (block-isBlock m b l))
+  pub met-at : Block (k .blocks) b → word ≡ wordIn k b → word ≡ wordMet r k
+  met-at l w = w ∙ rw e (simp (block-isBlock (k .blocks) b l))
 
 -- the block met, by the phase
-pub meets-root : (r : Regs) → r .phase ≡ idle → metBlock r ≡ r .root
+pub meets-root : (r : Regs) (k : Colouring) → r .phase ≡ idle → metBlock r k ≡ r .root
 unfolding metBlock
-meets-root r i = simp (eq-eqb (r .phase) idle i)
+meets-root r k i = simp (eq-eqb (r .phase) idle i)
 
-pub meets-grey : (r : Regs) → r .phase ≡ marking → metBlock r ≡ r .grey
+pub meets-grey : (r : Regs) (k : Colouring) → r .phase ≡ marking → metBlock r k ≡ firstGrey k
 unfolding metBlock
-meets-grey r k = rw k refl
+meets-grey r k e = rw e refl
 
-pub meets-position : (r : Regs) → r .phase ≢ idle → r .phase ≢ marking → metBlock r ≡ r .position
+pub meets-position : (r : Regs) (k : Colouring) → r .phase ≢ idle → r .phase ≢ marking → metBlock r k ≡ r .position
 unfolding metBlock
-meets-position r i k = simp (ne-eqb (r .phase) idle i, ne-eqb (r .phase) marking k)
+meets-position r k i n = simp (ne-eqb (r .phase) idle i, ne-eqb (r .phase) marking n)
 
 module _ (r : Regs) (ws cs bs : List ℕ) where
   abbrev here : Heap
   here = heap r ws cs bs
 
   -- what was read of the block met is what the machine reads
-  pub met-word : {word : ℕ} → word ≡ (if isBlock (r .blocks) (metBlock r) then colourWord cs (metBlock r) else white) → word ≡ metWord here
+  pub met-word : {word : ℕ} → word ≡ wordMet r (coloured (r .blocks) (r .grey) cs) → word ≡ metWord here
   unfolding metWord
   met-word w = w
 
@@ -86,7 +86,7 @@ marking-stays h k n =
     (λ i w. absurd (omega arith))
     (λ m o. absurd (n o))
     (λ m o c.
-    if-ind (λ (e : UnitEnd). e .heap .regs .phase ≡ marking) (allSound (h .regs .blocks) (h .colours) (referencesOf h (h .regs .grey)))
+    if-ind (λ (e : UnitEnd). e .heap .regs .phase ≡ marking) (allSound (colouring h) (referencesOf h (h .regs .grey)))
     (λ a. k)
     (λ a. k))
     (λ s c. absurd (omega arith))

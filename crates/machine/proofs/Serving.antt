@@ -29,19 +29,18 @@ use Rattle.machine.specs.WellFormed.{Block}
 use Rattle.machine.specs.Store.{putNumber, putReference}
 use Rattle.machine.specs.Allocate.{taken, held}
 use Rattle.machine.specs.Several.{Form, linkOf, firstFrees, takeSeveralRefusal, nulled, zeroed, filled, holderOf, byWord, serve, severalTaken}
-use Rattle.machine.specs.declared.Standing.the-variants.{Live}
 use Rattle.machine.specs.declared.Colour.{Colour}
 use Rattle.machine.specs.declared.Colour.the-variants.{White, Grey, Black, Free, Outside}
 use Rattle.machine.specs.Tests.{_▷_}
 use Rattle.machine.specs.Answers.{Given, answering}
 use Rattle.machine.specs.Units.{RunEnd, stopped}
-use Rattle.machine.specs.Colouring.{freeColour}
-use Rattle.machine.specs.Heap.{colourOf}
-use Rattle.machine.specs.Standing.{holderRefusal, standing, standingOf}
+use Rattle.machine.specs.Colouring.{freeColour, isFree}
+use Rattle.machine.specs.Heap.{colouring, colourOf}
+use Rattle.machine.specs.State.{holderRefusal, isLive, stateFrom, stateIn, stateOf, newColour}
 use Rattle.machine.specs.Ready.{Ready}
-use Rattle.machine.proofs.Tests.{by-eq}
-use Rattle.machine.proofs.Steps.{never}
+use Rattle.machine.proofs.Tests.{by-eq, clash}
 use Rattle.machine.proofs.Blocks.{block-as}
+use Rattle.machine.proofs.Colours.{repaint-length}
 use Rattle.machine.proofs.Refusals.{stops, holder-live}
 use Rattle.machine.proofs.Walking.{onward, at-frees, apart, walks-blocks, walks-free}
 use Rattle.machine.proofs.Gathering.{Gathered, gathered}
@@ -80,7 +79,7 @@ module _ (n i : ℕ) (at : ℕ → ℕ) (m : ℕ) (h : Heap) (s : Listed n at m)
       record {
         blocks = d .blocks;
         words = simp length-set (d .words);
-        colours = simp length-set (d .colours);
+        colours = repaint-length (h .regs .free) (newColour (h .regs) (h .regs .free)) (h .colours) ∙ d .colours;
         bytes = d .bytes;
         count = omega arith;
         first = λ k. ap (linkOf h) f ∙ d .links i (omega arith) k;
@@ -163,16 +162,16 @@ placed f n i at m b w xs g s q e l = by-eq i 0
     }))
 
 -- a free block is not live
-free-gone : (h : Heap) (b : ℕ) → freeColour (colourOf h b) ≡ true → standingOf h b ≢ Live
-unfolding standingOf standing
+free-gone : (h : Heap) (b : ℕ) → isFree (colouring h) b ≡ true → isLive (stateOf h b) ≡ true → ⊥
+unfolding stateIn stateFrom
 free-gone h b f e = go (colourOf h b) f e
   where
-    go : (c : Colour) → freeColour c ≡ true → standing (h .regs) b c ≢ Live
-    go White f e = never (cc)
-    go Grey f e = never (cc)
-    go Black f e = never (cc)
-    go Free f e = never (cc)
-    go Outside f e = never (cc)
+    go : (c : Colour) → freeColour c ≡ true → isLive (stateFrom (h .regs) b c) ≡ true → ⊥
+    go White f e = clash f refl
+    go Grey f e = clash f refl
+    go Black f e = clash f refl
+    go Free f e = clash e refl
+    go Outside f e = clash f refl
 
 -- the blocks that are taken from h on
 abbrev pub block-of : Heap → ℕ → ℕ

@@ -22,7 +22,7 @@ use Rattle.machine.specs.Registers.{marking, withGrey, withRoot}
 use Rattle.machine.specs.Block.{place, setBit, clearBit}
 use Rattle.machine.specs.Colouring.{Colouring, greyWhite}
 use Rattle.machine.specs.Heap.{Heap, heap, colouring, withRegs, withColouring}
-use Rattle.machine.specs.Standing.{holderRefusal, targetRefusal}
+use Rattle.machine.specs.State.{holderRefusal, targetRefusal}
 use Rattle.machine.specs.Entry.{entry, wordRefusal, targetPlace}
 use Rattle.machine.specs.Answers.{Given, refuse, done, unless}
 use Rattle.machine.specs.Read.{readRefusal}
@@ -42,9 +42,9 @@ unfolding unless
 unless-passes {a} h e z f = simp (eq-eqb a 0 (sym e ∙ z)) f
 
 module _ (h : Heap) (t : ℕ) where
-  pub barrier-on : (k : Colouring) {n : ℕ} → n ≡ h .regs .blocks → h .regs .phase ≡ marking → k ≡ greyWhite n t (colouring h) → withColouring k h ≡ barrier t h
+  pub barrier-on : (k : Colouring) → h .regs .phase ≡ marking → k ≡ greyWhite t (colouring h) → withColouring k h ≡ barrier t h
   unfolding barrier
-  barrier-on k m e g = rw (g, m) (simp (eq-eqb (h .regs .phase) marking e))
+  barrier-on k e g = rw g (simp (eq-eqb (h .regs .phase) marking e))
 
   pub barrier-off : h .regs .phase ≢ marking → h ≡ barrier t h
   unfolding barrier
@@ -122,7 +122,7 @@ unfolding barrier
 barrier-grey t h = go (eqb (h .regs .phase) marking)
   where
     greyed : Heap
-    greyed = withColouring (greyWhite (h .regs .blocks) t (colouring h)) h
+    greyed = withColouring (greyWhite t (colouring h)) h
 
     go : (x : Bool) → withGrey ((if x then greyed else h) .regs .grey) (h .regs) ≡ (if x then greyed else h) .regs
     go true = refl

@@ -9,11 +9,12 @@ use mathlib.Core.Logic.{_≢_}
 use mathlib.Core.List.{List}
 use borrow.Author.Tests.{eq-eqb, ne-eqb}
 use Rattle.machine.specs.declared.Regs.{Regs}
+use Rattle.machine.specs.declared.Colour.the-variants.{White, Free}
 use Rattle.machine.specs.declared.Step.the-variants.{Reclaim}
 use Rattle.machine.specs.declared.Progress.the-variants.{Done, Damaged}
 use Rattle.machine.specs.Registers.{idle, marking, withPhase, withGrey, withFree, withCount, withPosition, withCycle, nextCycle, sweepEnd}
 use Rattle.machine.specs.Block.{withEight, freeWords, clearByte}
-use Rattle.machine.specs.Colouring.{Colouring, freed, white, paint, toGrey}
+use Rattle.machine.specs.Colouring.{Colouring, coloured, painted, toGrey}
 use Rattle.machine.specs.Heap.{heap}
 use Rattle.machine.specs.OneUnit.{begun, advance, reclaimed, whitened, act, ended}
 
@@ -22,7 +23,7 @@ module _ (r : Regs) (ws cs bs : List ℕ) where
   unfolding begun
   begin-empty e z = rw e (simp (eq-eqb (r .root) 0 z))
 
-  pub begin-root : {n : ℕ} {k : Colouring} → n ≡ nextCycle (r .cycle) → r .root ≢ 0 → k ≡ toGrey (r .root) (record { head = r .grey; cells = cs })
+  pub begin-root : {n : ℕ} {k : Colouring} → n ≡ nextCycle (r .cycle) → r .root ≢ 0 → k ≡ toGrey (r .root) (coloured (r .blocks) (r .grey) cs)
       → heap (withGrey (k .head) (withPhase marking (withCycle n r))) ws (k .cells) bs ≡ begun (heap r ws cs bs)
   unfolding begun
   begin-root e z g = rw (e, g) (simp (ne-eqb (r .root) 0 z))
@@ -32,12 +33,12 @@ module _ (r : Regs) (ws cs bs : List ℕ) where
   reclaim-full e = simp (eq-eqb (r .count) (r .blocks) e)
 
   pub reclaim-done : {s : Regs} {ws′ cs′ bs′ : List ℕ} → r .count ≢ r .blocks → ws′ ≡ withEight ws (r .position) (freeWords (r .free))
-      → cs′ ≡ paint (r .position) freed cs → bs′ ≡ clearByte bs (r .position)
+      → cs′ ≡ painted (r .position) Free (coloured (r .blocks) (r .grey) cs) .cells → bs′ ≡ clearByte bs (r .position)
       → s ≡ advance (withCount (r .count + 1) (withFree (r .position) r)) → ended r (Done s) ws′ cs′ bs′ ≡ act Reclaim (heap r ws cs bs)
   unfolding act ended reclaimed
   reclaim-done n a b d e = rw (a, b, d, e) (simp (ne-eqb (r .count) (r .blocks) n))
 
-  pub whiten-done : {s : Regs} {cs′ : List ℕ} → cs′ ≡ paint (r .position) white cs → s ≡ advance r → heap s ws cs′ bs ≡ whitened (heap r ws cs bs)
+  pub whiten-done : {s : Regs} {cs′ : List ℕ} → cs′ ≡ painted (r .position) White (coloured (r .blocks) (r .grey) cs) .cells → s ≡ advance r → heap s ws cs′ bs ≡ whitened (heap r ws cs bs)
   unfolding whitened
   whiten-done a e = rw (a, e) refl
 

@@ -18,8 +18,8 @@ use native.Mathlib.Omega.{arith}
 use lib.Dec.{eqb}
 use lib.ListN.{getD}
 use borrow.Author.Tests.{eq-eqb, ne-eqb, eqb-false}
-use Rattle.machine.specs.Colouring.{freeColour}
-use Rattle.machine.specs.Heap.{Heap, colourOf}
+use Rattle.machine.specs.Colouring.{isFree}
+use Rattle.machine.specs.Heap.{Heap, colouring}
 use Rattle.machine.specs.Entry.{isBlockOrNone}
 use Rattle.machine.specs.WellFormed.{Block}
 use Rattle.machine.specs.Several.{linkOf, frees, listWalks, amongst, distinct}
@@ -96,10 +96,10 @@ module _ (h : Heap) where
       (λ t. t)
 
   pub walks-head : (n a : ℕ) → listWalks (suc n) a h ≡ true
-      → (a ≢ 0) × (freeColour (colourOf h a) ≡ true) × (isBlockOrNone (h .regs .blocks) (linkOf h a) ≡ true) × (listWalks n (linkOf h a) h ≡ true)
+      → (a ≢ 0) × (isFree (colouring h) a ≡ true) × (isBlockOrNone (h .regs .blocks) (linkOf h a) ≡ true) × (listWalks n (linkOf h a) h ≡ true)
   unfolding listWalks
   walks-head n a e =
-      let c = freeColour (colourOf h a) in
+      let c = isFree (colouring h) a in
       let l = isBlockOrNone (h .regs .blocks) (linkOf h a) in
       let u = both-true (not (eqb a 0)) (c && (l && listWalks n (linkOf h a) h)) e in
       let v = both-true c (l && listWalks n (linkOf h a) h) (u .1) in
@@ -114,7 +114,7 @@ module _ (h : Heap) where
       let u = walks-head n a e in
       rw (← onward-link a j) (walks-blocks n (linkOf h a) (u .3) (none-or-block (h .regs .blocks) (linkOf h a) (u .2)) j (omega arith))
 
-  pub walks-free : (n a : ℕ) → listWalks n a h ≡ true → (j : ℕ) → j < n → freeColour (colourOf h (onward h a j)) ≡ true
+  pub walks-free : (n a : ℕ) → listWalks n a h ≡ true → (j : ℕ) → j < n → isFree (colouring h) (onward h a j) ≡ true
   unfolding onward
   walks-free zero a e j l = absurd (omega arith)
   walks-free (suc n) a e zero l = walks-head n a e .1

@@ -1,23 +1,22 @@
 -- Allocate.
 --     unitsDue r           the units that an allocation does first
 --     listRefusal h        8 or 7 for the free list
---     newColour r b        the colour word of the new block b
 --     taken h              the first free block taken
 --     held b w x h         the reference to x stored: in word w of b, or in the root where b is 0
 --     allocate b w h       the call
 -- Assumes nothing.
 use Prim.Native.Nat.{ℕ, _-_, _*_, max}
-use mathlib.Core.Bool.{Bool, _&&_, _||_}
-use lib.Dec.{eqb, leb}
+use mathlib.Core.Bool.{Bool, _&&_}
+use lib.Dec.{eqb}
 use lib.ListN.{set}
 use Rattle.machine.specs.declared.Regs.{Regs}
 use Rattle.machine.specs.Tests.{if_then_else_, _▷_}
 use Rattle.machine.specs.Rounding.{roundedUp}
-use Rattle.machine.specs.Registers.{marking, sweeping, withFree, withCount, withRoot}
+use Rattle.machine.specs.Registers.{withFree, withCount, withRoot}
 use Rattle.machine.specs.Block.{place, wordOf}
-use Rattle.machine.specs.Colouring.{white, black, freeColour, paint}
-use Rattle.machine.specs.Heap.{Heap, heap, withRegs, colourOf}
-use Rattle.machine.specs.Standing.{holderRefusal}
+use Rattle.machine.specs.Colouring.{isFree, painted}
+use Rattle.machine.specs.Heap.{Heap, heap, colouring, withRegs}
+use Rattle.machine.specs.State.{holderRefusal, newColour}
 use Rattle.machine.specs.Entry.{entry, holderPlace, isBlockOrNone}
 use Rattle.machine.specs.Answers.{Given, answering, unless}
 use Rattle.machine.specs.Units.{RunEnd, run}
@@ -30,7 +29,7 @@ unitsDue r = if eqb (r .pace) 0 then 2 * roundedUp (r .blocks) (max 1 (r .count)
 -- 8: "a first free block not coloured free or whose link is no block and not 0"
 unfoldable pub firstFits : Heap → Bool
 firstFits h =
-    freeColour (colourOf h (h .regs .free)) && isBlockOrNone (h .regs .blocks) (wordOf (h .words) (h .regs .free) 0)
+    isFree (colouring h) (h .regs .free) && isBlockOrNone (h .regs .blocks) (wordOf (h .words) (h .regs .free) 0)
 
 -- 8: "a free head that is 0 while the count isn't, or the reverse"; 7: "Free head and free count both 0 is 7."
 unfoldable pub listRefusal : Heap → ℕ
@@ -39,18 +38,13 @@ listRefusal h =
     if eqb (h .regs .count) 0 then 8 else
     if firstFits h then 0 else 8
 
--- "The new block is black while marking, black while sweeping if its number is at least the position, else white."
-unfoldable pub newColour : Regs → ℕ → ℕ
-newColour r b =
-    if eqb (r .phase) marking || (eqb (r .phase) sweeping && leb (r .position) b) then black else white
-
 -- "takes the first free block, zeroes word 0"
 unfoldable pub taken : Heap → Heap
 taken h =
     heap
     (withCount (h .regs .count - 1) (withFree (wordOf (h .words) (h .regs .free) 0) (h .regs)))
     (set (h .words) (place (h .regs .free) 0) 0)
-    (paint (h .regs .free) (newColour (h .regs) (h .regs .free)) (h .colours))
+    (painted (h .regs .free) (newColour (h .regs) (h .regs .free)) (colouring h) .cells)
     (h .bytes)
 
 -- "stores the reference"; "or 0, 0 for the root"

@@ -13,8 +13,8 @@ use lib.ListN.{replicate}
 use Rattle.machine.specs.declared.Regs.{Regs}
 use Rattle.machine.specs.Registers.{freshRegs}
 use Rattle.machine.specs.Block.{wordOf}
-use Rattle.machine.specs.Colouring.{white, black, freed, colourWord}
-use Rattle.machine.specs.Heap.{Heap, heap}
+use Rattle.machine.specs.Colouring.{white, black, freed, wordIn}
+use Rattle.machine.specs.Heap.{Heap, heap, colouring}
 use Rattle.machine.specs.Answers.{Given}
 use Rattle.machine.specs.Session.{Call, does, session}
 use Rattle.machine.specs.Session.Call.{Format, Read, StoreReference, Allocate, Work}
@@ -56,8 +56,8 @@ units g = g .answer .units ∷ []
 abbrev regs : Given → Regs
 regs g = g .heap .regs
 
-abbrev colourIn : Given → ℕ → ℕ
-colourIn g b = colourWord (g .heap .colours) b
+abbrev colourWord : Given → ℕ → ℕ
+colourWord g b = wordIn (colouring (g .heap)) b
 
 abbrev wordZeroIn : Given → ℕ → ℕ
 wordZeroIn g b = wordOf (g .heap .words) b 0
@@ -77,15 +77,15 @@ table =
     (freed ∷ freed ∷ freed ∷ 3 ∷ 4 ∷ 0 ∷ [])
     -- 2. Then Allocate at root: 1 unit; block 2, black; root 2, phase 1, cycle 1.
     ∷ on 3 (Format 3 1 ∷ []) (Allocate 0 0)
-    (λ g. answer g ++ colourIn g 2 ∷ regs g .root ∷ regs g .phase ∷ regs g .cycle ∷ [])
+    (λ g. answer g ++ colourWord g 2 ∷ regs g .root ∷ regs g .phase ∷ regs g .cycle ∷ [])
     (0 ∷ 2 ∷ 1 ∷ black ∷ 2 ∷ 1 ∷ 1 ∷ [])
     -- 3. Then Allocate at (2, 0): 1 unit; block 3, black; phase 2, position 2.
     ∷ on 3 (Format 3 1 ∷ Allocate 0 0 ∷ []) (Allocate 2 0)
-    (λ g. answer g ++ colourIn g 3 ∷ regs g .phase ∷ regs g .position ∷ [])
+    (λ g. answer g ++ colourWord g 3 ∷ regs g .phase ∷ regs g .position ∷ [])
     (0 ∷ 3 ∷ 1 ∷ black ∷ 2 ∷ 2 ∷ [])
     -- 4. Then Work 3: blocks 2 and 3 white, phase 0. The cycle took 5 units.
     ∷ on 3 (Format 3 1 ∷ Allocate 0 0 ∷ Allocate 2 0 ∷ []) (Work 3)
-    (λ g. answer g ++ colourIn g 2 ∷ colourIn g 3 ∷ regs g .phase ∷ [])
+    (λ g. answer g ++ colourWord g 2 ∷ colourWord g 3 ∷ regs g .phase ∷ [])
     (0 ∷ 0 ∷ 3 ∷ white ∷ white ∷ 0 ∷ [])
     ∷ cycle 3 (Format 3 1 ∷ []) (Allocate 0 0 ∷ Allocate 2 0 ∷ Work 3 ∷ []) 5
     -- 5. Then store 0 as reference at (2, 0), Work 4: position 3. Block 3 is doomed: Read answers 5.
@@ -95,13 +95,13 @@ table =
     ∷ on 3 toCase5 (StoreReference 2 1 3) answer (6 ∷ 0 ∷ 0 ∷ [])
     -- 7. There, Work 1: block 3 is free, its word 0 is 4, free head 3, free count 2. Work 1 more: idle, 6 units in the cycle.
     ∷ on 3 toCase5 (Work 1)
-    (λ g. answer g ++ colourIn g 3 ∷ wordZeroIn g 3 ∷ regs g .free ∷ regs g .count ∷ [])
+    (λ g. answer g ++ colourWord g 3 ∷ wordZeroIn g 3 ∷ regs g .free ∷ regs g .count ∷ [])
     (0 ∷ 0 ∷ 1 ∷ freed ∷ 4 ∷ 3 ∷ 2 ∷ [])
     ∷ on 3 (toCase5 ++ Work 1 ∷ []) (Work 1) (λ g. answer g ++ regs g .phase ∷ []) (0 ∷ 0 ∷ 1 ∷ 0 ∷ [])
     ∷ cycle 3 (toCase4 ++ StoreReference 2 0 0 ∷ []) (Work 4 ∷ Work 1 ∷ Work 1 ∷ []) 6
     -- 8. From 4: Work 1, store 0 as reference at (2, 0), Work 1, store reference 3 at (2, 1): 3 has colour 1 and is the grey head.
     ∷ on 3 (toCase4 ++ Work 1 ∷ StoreReference 2 0 0 ∷ Work 1 ∷ []) (StoreReference 2 1 3)
-    (λ g. answer g ++ colourIn g 3 ∷ regs g .grey ∷ [])
+    (λ g. answer g ++ colourWord g 3 ∷ regs g .grey ∷ [])
     (0 ∷ 0 ∷ 0 ∷ 1 ∷ 3 ∷ [])
     -- 9. Format(1, 1), Allocate at root, Allocate at (2, 0): 7 with 1 unit, phase 2.
     ∷ on 1 (Format 1 1 ∷ Allocate 0 0 ∷ []) (Allocate 2 0) (λ g. answer g ++ regs g .phase ∷ []) (7 ∷ 0 ∷ 1 ∷ 2 ∷ [])

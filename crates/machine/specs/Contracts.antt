@@ -21,6 +21,7 @@ use Rattle.machine.specs.Chain.{allocateChain}
 use Rattle.machine.specs.Field.{readField, storeFieldNumber, storeFieldReference}
 use Rattle.machine.specs.Work.{work}
 use Rattle.machine.specs.Audit.{audit}
+use Rattle.machine.specs.Tell.{tellState}
 
 -- the same result, and the same words, colours and bytes afterwards
 pub record Same (o p : Outcome) (ws xs cs ds bs es : List ℕ) : Type 0 where
@@ -33,7 +34,7 @@ abbrev pub Only : Given → Type 0
 Only g =
     (o p : Outcome) (ws xs cs ds bs es : List ℕ) → given o ws cs bs ≡ g → given p xs ds es ≡ g → Same o p ws xs cs ds bs es
 
--- Read and Audit: the answer, and the heap afterwards
+-- Read, and Audit and State: the answer, and the heap afterwards
 abbrev pub OnlyRead : ReadGiven → Type 0
 OnlyRead g = (a b : ReadAnswer) (h k : Heap) → (record { answer = a; heap = h }) ≡ g → (record { answer = b; heap = k }) ≡ g → (a ≡ b) × (h ≡ k)
 
@@ -58,3 +59,4 @@ pub record NoSecondOutcome : Type 0 where
   pub ofStoreFieldReference : (b k t : ℕ) (h : Heap) → Only (storeFieldReference b k t h)
   pub ofWork : (n : ℕ) (h : Heap) → Only (work n h)
   pub ofAudit : (h : Heap) → OnlyAudit (audit h)
+  pub ofState : (b : ℕ) (h : Heap) → OnlyAudit (tellState b h)

@@ -12,7 +12,7 @@ use Rattle.machine.specs.Tests.{if_then_else_, _▷_}
 use Rattle.machine.specs.Block.{isBlock, wordOf, byteOf, bit}
 use Rattle.machine.specs.Heap.{Heap}
 use Rattle.machine.specs.Entry.{entry, targetPlace}
-use Rattle.machine.specs.Standing.{holderRefusal, targetRefusal}
+use Rattle.machine.specs.State.{holderRefusal, targetRefusal}
 use Rattle.machine.specs.Answers.{Given, ReadGiven, unless, done}
 use Rattle.machine.specs.Read.{readAnswer, readRefused}
 use Rattle.machine.specs.Store.{barrier, putNumber, putReference}

@@ -4,9 +4,10 @@ pub mod Tests
 pub mod Rounding
 pub mod Registers
 pub mod Block
+pub mod Lists
 pub mod Colouring
 pub mod Heap
-pub mod Standing
+pub mod State
 pub mod Entry
 pub mod Answers
 pub mod OneUnit
@@ -20,7 +21,9 @@ pub mod Chain
 pub mod Field
 pub mod Work
 pub mod WellFormed
+pub mod Layout
 pub mod Audit
+pub mod Tell
 pub mod Session
 pub mod Cases
 pub mod Ready

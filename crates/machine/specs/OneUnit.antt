@@ -1,7 +1,7 @@
 -- One unit of collector work.
 --     UnitEnd              how a unit ended: finished or not, and the heap afterwards
 --     step m p g word      the step that a unit takes, by the phase p, the grey head g and the colour word met
---     metBlock r, metWord h     the block that the unit meets first, and its colour word (white where there is none)
+--     metBlock r k, metWord h     the block that the unit meets first, and its colour word (white where there is none)
 --     begun, marked, turned, reclaimed, whitened, passed     the heap after each step
 --     unit h               one unit: every test before the first write
 --     ended r o ws cs bs   what an answered Progress means, with the registers before and the buffers afterwards
@@ -20,7 +20,7 @@ use Rattle.machine.specs.declared.Progress.the-variants.{Done, Damaged}
 use Rattle.machine.specs.Tests.{if_then_else_}
 use Rattle.machine.specs.Registers.{idle, marking, sweeping, withPhase, withFree, withCount, withPosition, withCycle, nextCycle, sweepEnd}
 use Rattle.machine.specs.Block.{isBlock, withEight, freeWords, clearByte}
-use Rattle.machine.specs.Colouring.{white, freed, colour, colourWord, paint, toGrey, toBlack, greyAll, isAllocated}
+use Rattle.machine.specs.Colouring.{Colouring, white, colour, wordIn, painted, toGrey, toBlack, firstGrey, greyAll, isAllocated}
 use Rattle.machine.specs.Heap.{Heap, heap, colouring, withRegs, withColours, withColouring, referencesOf}
 
 pub record UnitEnd : Type 0 where
@@ -59,14 +59,17 @@ step m p g word =
     if eqb p sweeping then sweepStep (colour m word) else Damage
 
 -- idle: the root; marking: the first of the grey list; sweeping: "the block at the position"
-unfoldable pub metBlock : Regs → ℕ
-metBlock r =
+unfoldable pub metBlock : Regs → Colouring → ℕ
+metBlock r k =
     if eqb (r .phase) idle then r .root else
-    if eqb (r .phase) marking then r .grey else r .position
+    if eqb (r .phase) marking then firstGrey k else r .position
+
+-- the word of the block met, or white where there is none
+abbrev pub wordMet : Regs → Colouring → ℕ
+wordMet r k = if isBlock (k .blocks) (metBlock r k) then wordIn k (metBlock r k) else white
 
 unfoldable pub metWord : Heap → ℕ
-metWord h =
-    if isBlock (h .regs .blocks) (metBlock (h .regs)) then colourWord (h .colours) (metBlock (h .regs)) else white
+metWord h = wordMet (h .regs) (colouring h)
 
 -- "Idle: cycle number plus one, phase 1; a root that isn't 0 becomes grey."
 unfoldable pub begun : Heap → Heap
@@ -78,15 +81,15 @@ begun h =
 -- reference word."
 unfoldable pub marked : Heap → Heap
 marked h =
-    withColouring (greyAll (h .regs .blocks) (referencesOf h (h .regs .grey)) (toBlack (colouring h))) h
+    withColouring (greyAll (referencesOf h (firstGrey (colouring h))) (toBlack (colouring h))) h
 
 -- 8: "a reference in a marked block that isn't 0 or an allocated block"
-abbrev pub sound : ℕ → List ℕ → ℕ → Bool
-sound m cs b = eqb b 0 || isAllocated m cs b
+abbrev pub sound : Colouring → ℕ → Bool
+sound k b = eqb b 0 || isAllocated k b
 
-unfoldable pub allSound : ℕ → List ℕ → List ℕ → Bool
-allSound m cs [] = true
-allSound m cs (b ∷ bs) = sound m cs b && allSound m cs bs
+unfoldable pub allSound : Colouring → List ℕ → Bool
+allSound k [] = true
+allSound k (b ∷ bs) = sound k b && allSound k bs
 
 -- "Marking, grey list empty: phase 2, position 2."
 unfoldable pub turned : Heap → Heap
@@ -104,13 +107,13 @@ reclaimed h =
     heap
     (advance (withCount (h .regs .count + 1) (withFree (h .regs .position) (h .regs))))
     (withEight (h .words) (h .regs .position) (freeWords (h .regs .free)))
-    (paint (h .regs .position) freed (h .colours))
+    (painted (h .regs .position) Free (colouring h) .cells)
     (clearByte (h .bytes) (h .regs .position))
 
 -- "Black becomes white."
 unfoldable pub whitened : Heap → Heap
 whitened h =
-    withColours (paint (h .regs .position) white (h .colours)) (withRegs (advance (h .regs)) h)
+    withColours (painted (h .regs .position) White (colouring h) .cells) (withRegs (advance (h .regs)) h)
 
 -- "Free stays."
 unfoldable pub passed : Heap → Heap
@@ -120,7 +123,7 @@ passed h = withRegs (advance (h .regs)) h
 unfoldable pub act : Step → Heap → UnitEnd
 act Begin h = finish (begun h)
 act Mark h =
-    if allSound (h .regs .blocks) (h .colours) (referencesOf h (h .regs .grey)) then finish (marked h) else damage h
+    if allSound (colouring h) (referencesOf h (firstGrey (colouring h))) then finish (marked h) else damage h
 act Turn h = finish (turned h)
 act Reclaim h = if eqb (h .regs .count) (h .regs .blocks) then damage h else finish (reclaimed h)
 act Whiten h = finish (whitened h)

@@ -12,7 +12,7 @@ use Rattle.machine.specs.declared.ReadAnswer.{ReadAnswer}
 use Rattle.machine.specs.Tests.{if_then_else_, _▷_}
 use Rattle.machine.specs.Block.{wordOf, byteOf, bit, base, eightWords}
 use Rattle.machine.specs.Heap.{Heap}
-use Rattle.machine.specs.Standing.{holderRefusal}
+use Rattle.machine.specs.State.{holderRefusal}
 use Rattle.machine.specs.Entry.{entry, wordRefusal}
 use Rattle.machine.specs.Answers.{ReadGiven}
 

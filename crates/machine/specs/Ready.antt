@@ -7,7 +7,7 @@ use mathlib.Core.Logic.{_≢_}
 use mathlib.Core.Bool.{true}
 use lib.ListN.{length}
 use Rattle.machine.specs.Registers.{sweeping, sweepEnd}
-use Rattle.machine.specs.Colouring.{headLegal}
+use Rattle.machine.specs.Colouring.{CellsFit, headLegal}
 use Rattle.machine.specs.Heap.{Heap}
 use Rattle.machine.specs.WellFormed.{Block}
 
@@ -16,7 +16,7 @@ pub record Ready (h : Heap) : Type 0 where
   pub most : h .regs .blocks ≤ 16384
   pub pace : h .regs .pace ≤ 65535
   pub words : length (h .words) ≡ 8 * h .regs .blocks
-  pub colours : length (h .colours) ≡ h .regs .blocks
+  pub colours : CellsFit (h .regs .blocks) (h .colours)
   pub bytes : length (h .bytes) ≡ h .regs .blocks
   pub phase : h .regs .phase ≤ 2
   pub grey : headLegal (h .regs .blocks) (h .regs .phase) (h .regs .grey) ≡ true

@@ -1,7 +1,7 @@
 -- What marking sees of a reference of a block before it writes: whether it is 0 or an allocated block, as document 01 asks, and whether
 -- it names a white block, which is to be greyed.
 --     seenColour c             what a reference to a block of colour c is
---     seen m cs b              what the reference b is
+--     seen k b                 what the reference b is
 --     unharmed s               it is 0 or an allocated block
 --     Named m bs               each of bs is 0 or a block
 -- Assumes nothing.
@@ -15,8 +15,7 @@ use Rattle.machine.specs.declared.Colour.the-variants.{White, Grey, Blac
 use Rattle.machine.specs.declared.Seen.{Seen}
 use Rattle.machine.specs.declared.Seen.the-variants.{Settled, ToGrey, Damaged}
 use Rattle.machine.specs.Tests.{if_then_else_}
-use Rattle.machine.specs.Block.{isBlock}
-use Rattle.machine.specs.Colouring.{colour, colourWord}
+use Rattle.machine.specs.Colouring.{Colouring, colourIn}
 use Rattle.machine.specs.WellFormed.{Block}
 
 abbrev pub seenColour : Colour → Seen
@@ -26,10 +25,8 @@ seenColour Black = Settled
 seenColour Free = Damaged
 seenColour Outside = Damaged
 
-unfoldable pub seen : ℕ → List ℕ → ℕ → Seen
-seen m cs b =
-    if eqb b 0 then Settled else
-    if isBlock m b then seenColour (colour m (colourWord cs b)) else Damaged
+unfoldable pub seen : Colouring → ℕ → Seen
+seen k b = if eqb b 0 then Settled else seenColour (colourIn k b)
 
 abbrev pub unharmed : Seen → Bool
 unharmed Settled = true

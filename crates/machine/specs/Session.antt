@@ -18,6 +18,7 @@ use Rattle.machine.specs.Chain.{allocateChain}
 use Rattle.machine.specs.Field.{readField, storeFieldNumber, storeFieldReference}
 use Rattle.machine.specs.Work.{work}
 use Rattle.machine.specs.Audit.{audit}
+use Rattle.machine.specs.Tell.{tellState}
 
 pub data Call : Type 0 where
   Format : ℕ → ℕ → Call
@@ -33,6 +34,7 @@ pub data Call : Type 0 where
   StoreFieldReference : ℕ → ℕ → ℕ → Call
   Work : ℕ → Call
   Audit : Call
+  State : ℕ → Call
 
 abbrev pub plainly : ReadGiven → Given
 plainly g = answering (g .answer .refusal) (g .answer .value) (g .answer .units) (g .heap)
@@ -51,6 +53,7 @@ does (StoreFieldNumber b k v) h = storeFieldNumber b k v h
 does (StoreFieldReference b k t) h = storeFieldReference b k t h
 does (Work n) h = work n h
 does Audit h = audit h
+does (State b) h = tellState b h
 
 unfoldable pub session : List Call → Heap → Heap
 session [] h = h

@@ -17,10 +17,10 @@ use lib.Dec.{eqb, leb}
 use lib.ListN.{getD}
 use Rattle.machine.specs.Tests.{if_then_else_, _▷_}
 use Rattle.machine.specs.Block.{wordOf}
-use Rattle.machine.specs.Colouring.{freeColour}
-use Rattle.machine.specs.Heap.{Heap, colourOf}
+use Rattle.machine.specs.Colouring.{isFree}
+use Rattle.machine.specs.Heap.{Heap, colouring}
 use Rattle.machine.specs.Entry.{isBlockOrNone}
-use Rattle.machine.specs.Standing.{holderRefusal}
+use Rattle.machine.specs.State.{holderRefusal}
 use Rattle.machine.specs.Answers.{Given, answering}
 use Rattle.machine.specs.Units.{RunEnd}
 use Rattle.machine.specs.Store.{putNumber, putReference}
@@ -51,7 +51,7 @@ firstFrees n h = frees n (h .regs .free) h
 unfoldable pub listWalks : ℕ → ℕ → Heap → Bool
 listWalks zero b h = true
 listWalks (suc n) b h =
-    not (eqb b 0) && (freeColour (colourOf h b) && (isBlockOrNone (h .regs .blocks) (linkOf h b) && listWalks n (linkOf h b) h))
+    not (eqb b 0) && (isFree (colouring h) b && (isBlockOrNone (h .regs .blocks) (linkOf h b) && listWalks n (linkOf h b) h))
 
 unfoldable pub amongst : ℕ → List ℕ → Bool
 amongst x [] = false

@@ -11,14 +11,14 @@ use Rattle.machine.specs.Registers.{marking, withRoot}
 use Rattle.machine.specs.Block.{place, setBit, clearBit}
 use Rattle.machine.specs.Colouring.{greyWhite}
 use Rattle.machine.specs.Heap.{Heap, heap, colouring, withRegs, withColouring}
-use Rattle.machine.specs.Standing.{holderRefusal, targetRefusal}
+use Rattle.machine.specs.State.{holderRefusal, targetRefusal}
 use Rattle.machine.specs.Entry.{entry, wordRefusal, targetPlace}
 use Rattle.machine.specs.Answers.{Given, done, unless}
 use Rattle.machine.specs.Read.{readRefusal}
 
 unfoldable pub barrier : ℕ → Heap → Heap
 barrier t h =
-    if eqb (h .regs .phase) marking then withColouring (greyWhite (h .regs .blocks) t (colouring h)) h else h
+    if eqb (h .regs .phase) marking then withColouring (greyWhite t (colouring h)) h else h
 
 -- "Store number (block, word, value): clears the bit."
 unfoldable pub putNumber : ℕ → ℕ → ℕ → Heap → Heap

@@ -2,25 +2,22 @@
 --     Block m b            b is a block number
 --     Live h b             b is an allocated block that isn't doomed
 --     Names h b x          a reference word of b holds x
---     Listed next end a l  from a on, by next, the list is l and ends at end
---     Exactly P next end a the list from a on ends, and has exactly the blocks of which P holds
 --     WellFormed h         the heap h is well-formed
 -- Assumes nothing.
 use Prim.Native.Nat.{ℕ, _+_, _≤_, _<_}
 use mathlib.Core.Path.{_≡_}
-use mathlib.Core.Logic.{_↔_, _≢_}
+use mathlib.Core.Logic.{_≢_}
 use mathlib.Core.Bool.{true}
-use mathlib.Core.List.{List, [], _∷_, List·Memᴰ}
 use lib.ListN.{length}
 use Rattle.machine.specs.declared.Colour.{Colour}
 use Rattle.machine.specs.declared.Colour.the-variants.{White, Grey, Black, Free, Outside}
-use Rattle.machine.specs.declared.Standing.the-variants.{Live as live}
 use Rattle.machine.specs.Registers.{idle, marking, sweeping}
 use Rattle.machine.specs.Block.{wordOf, byteOf, bit}
-use Rattle.machine.specs.Colouring.{colourWord}
-use Rattle.machine.specs.Heap.{Heap, colourOf}
-use Rattle.machine.specs.Standing.{standingOf}
+use Rattle.machine.specs.Colouring.{GreysOf}
+use Rattle.machine.specs.Heap.{Heap, colouring, colourOf}
+use Rattle.machine.specs.State.{stateOf, isLive}
 use Rattle.machine.specs.Entry.{heapFits, legal}
+pub use Rattle.machine.specs.Lists.{Listed, ends, goes, Exactly}
 
 -- "Block numbers run from 2 to M + 1"
 pub record Block (m b : ℕ) : Type 0 where
@@ -35,7 +32,7 @@ pub record Coloured (h : Heap) (c : Colour) (b : ℕ) : Type 0 where
 -- "an allocated block that isn't doomed"
 pub record Live (h : Heap) (b : ℕ) : Type 0 where
   pub block : Block (h .regs .blocks) b
-  pub standing : standingOf h b ≡ live
+  pub live : isLive (stateOf h b) ≡ true
 
 -- "a reference word of [b] names it"
 pub record Names (h : Heap) (b x : ℕ) : Type 0 where
@@ -43,15 +40,6 @@ pub record Names (h : Heap) (b x : ℕ) : Type 0 where
   pub low : word ≤ 7
   pub set : bit (byteOf (h .bytes) b) word ≡ true
   pub holds : wordOf (h .words) b word ≡ x
-
-pub data Listed (next : ℕ → ℕ) (end : ℕ) : ℕ → List ℕ → Type 0 where
-  ends : {a : ℕ} → a ≡ end → Listed next end a []
-  goes : {a : ℕ} {l : List ℕ} → a ≢ end → Listed next end (next a) l → Listed next end a (a ∷ l)
-
-pub record Exactly (P : ℕ → Type 0) (next : ℕ → ℕ) (end a : ℕ) : Type 0 where
-  pub blocks : List ℕ
-  pub listed : Listed next end a blocks
-  pub members : (b : ℕ) → List·Memᴰ b blocks ↔ P b
 
 -- "its words 1 to 7 are 0"; "A free block has reference byte 0"
 pub record LaidOut (h : Heap) (b : ℕ) : Type 0 where
@@ -65,7 +53,7 @@ pub record WellFormed (h : Heap) : Type 0 where
   pub registers : legal (h .regs) ≡ true
   pub colours : (b : ℕ) → Block (h .regs .blocks) b → colourOf h b ≢ Outside
   -- "the grey list ends and has exactly the grey blocks"
-  pub greys : Exactly (Coloured h Grey) (colourWord (h .colours)) 1 (h .regs .grey)
+  pub greys : GreysOf (colouring h)
   -- "the free list ends, has exactly the free blocks, laid out as above, and free count of them"
   pub frees : Exactly (Coloured h Free) (λ b. wordOf (h .words) b 0) 0 (h .regs .free)
   pub laid : (b : ℕ) → Coloured h Free b → LaidOut h b

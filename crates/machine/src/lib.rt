@@ -60,6 +60,19 @@ pub const DAMAGE: u32 = 8;
 
 pub const TOO_MANY_UNITS: u32 = 9;
 
+// The numbers by which a state is told to the host.
+pub const TOLD_LIVE_WHITE: u32 = 1;
+
+pub const TOLD_DOOMED: u32 = 2;
+
+pub const TOLD_GREY: u32 = 3;
+
+pub const TOLD_BLACK: u32 = 4;
+
+pub const TOLD_FREE: u32 = 5;
+
+pub const TOLD_OUTSIDE: u32 = 6;
+
 // The register record, in document 01's order.
 #[repr(C)]
 pub struct Regs {
@@ -123,11 +136,15 @@ pub enum Colour {
     Outside,
 }
 
-// What a call may do with a block: it is allocated and not doomed; it is free or doomed; its colour is outside the layout.
-pub enum Standing {
-    Live,
-    Gone,
-    Damaged,
+// What a number is to a call: a block that is allocated and not doomed, by its colour; a doomed block; a free one; or outside the layout,
+// as a number is that is no block.
+pub enum State {
+    LiveWhite,
+    Doomed,
+    Grey,
+    Black,
+    Free,
+    Outside,
 }
 
 // The step that a unit takes.

@@ -25,7 +25,8 @@ use Rattle.machine.specs.Heap.{Heap, heap}
 use Rattle.machine.specs.WellFormed.{Block}
 use Rattle.machine.specs.Ready.{Ready}
 use Rattle.machine.specs.Store.{putReference}
-use Rattle.machine.specs.Allocate.{newColour, taken, held}
+use Rattle.machine.specs.State.{ahead, mayBeBlack, newColour}
+use Rattle.machine.specs.Allocate.{taken, held}
 use Rattle.machine.specs.Several.{firstFrees, takeSeveralRefusal, holderOf, byWord, filled, serve}
 use Rattle.machine.specs.Chain.{link, chain}
 use Rattle.machine.proofs.Tests.{by-eq}
@@ -138,7 +139,7 @@ taken-index h b = let l = b .low in let t = b .high in omega arith
 
 -- the holder written before the take or after it
 held-take : (b w x : ℕ) (h : Heap) → (b ≢ 0 → place b w ≢ place (h .regs .free) 0) → held b w x (taken h) ≡ taken (held b w x h)
-unfolding held taken newColour
+unfolding held taken newColour mayBeBlack ahead
 held-take b w x h o = by-eq b 0 (λ z. simp (eq-eqb b 0 z)) (λ z. simp (ne-eqb b 0 z) (take-after b w x h (o z)))
 
 module _ (b w n : ℕ) (h₀ : Heap) (s : Listed n (block-of h₀) (h₀ .regs .blocks)) where

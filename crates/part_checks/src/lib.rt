@@ -1,12 +1,12 @@
-// The tests before a call does anything: refusals 1 to 4 by numbers alone, then 8, 5 and 6 by a block's colour.
+// The tests before a call does anything: refusals 1 to 4 by numbers alone, then 8, 5 and 6 by a block's state.
 // Each answers the refusal number, or 0. Then how a call gives back its answer: answered, and for a call that did
 // no units refused and done.
 use machine::Answer;
-use machine::Colour;
 use machine::Outcome;
 use machine::Regs;
-use machine::Standing;
+use machine::State;
 ghost use mathlib.Core.Path.{_≡_};
+ghost use mathlib.Core.Logic.{_≢_};
 ghost use mathlib.Core.Bool.{true, _&&_, _||_};
 ghost use mathlib.Core.List.{List};
 ghost use Prim.Native.Nat.{ℕ, _≤_};
@@ -15,8 +15,8 @@ ghost use lib.ListN.{length};
 ghost use Rattle.machine.specs.WellFormed.{Block};
 ghost use Rattle.machine.specs.Block.{isBlock};
 ghost use Rattle.machine.specs.Heap.{heap};
-ghost use Rattle.machine.specs.Colouring.{headLegal};
-ghost use Rattle.machine.specs.Standing.{doomedWhite, standing, standingOf, refusalOf, holderRefusal, targetRefusal};
+ghost use Rattle.machine.specs.Colouring.{CellsFit, headLegal};
+ghost use Rattle.machine.specs.State.{refusalOf, holderRefusal, targetRefusal};
 ghost use Rattle.machine.specs.Entry.{numbersFit, lengthsFit, fits, isBlockOrNone, positionLegal, legal, entry, wordRefusal, holderPlace, targetPlace};
 ghost use Rattle.machine.specs.Read.{readRefusal};
 ghost use Rattle.machine.specs.Answers.{given, answering, refuse, done};
@@ -149,67 +149,34 @@ pub fn target_place(m: u32, t: u32) -> u32
     machine::NO_TARGET
 }
 
-// Whether a white block b is doomed: the one place that looks at phase and position for it.
-pub fn doomed_white(phase: u32, position: u32, b: u32) -> bool
-    ensures { λ x. ⌜ ((r : Regs) → r .phase ≡ phase → r .position ≡ position → x ≡ doomedWhite r b) ⌝ }
-{
-    phase == machine::SWEEPING && position <= b
-}
-
-// What a call may do with the block b of colour c.
-pub fn standing(phase: u32, position: u32, b: u32, c: Colour) -> Standing
-    ensures { λ x. ⌜ ((r : Regs) → r .phase ≡ phase → r .position ≡ position → x ≡ standing r b c) ⌝ }
-{
-    match c {
-        Colour::White => {
-            if doomed_white(phase, position, b) {
-                Standing::Gone
-            } else {
-                Standing::Live
-            }
-        }
-        Colour::Grey => Standing::Live,
-        Colour::Black => Standing::Live,
-        Colour::Free => Standing::Gone,
-        Colour::Outside => Standing::Damaged,
-    }
-}
-
-// What a call may do with the block b.
-pub fn standing_of(m: u32, phase: u32, position: u32, colours: &[u32], b: u32) -> Standing
-    requires { ⌜ (m ≤ 16384) × Block (length (now colours)) b ⌝ }
-    ensures { λ x. ⌜ ((r : Regs) (ws bs : List ℕ) → r .blocks ≡ m → r .phase ≡ phase → r .position ≡ position → x ≡ standingOf (heap r ws (now (colours .entry)) bs) b) ⌝ }
-{
-    standing(
-        phase,
-        position,
-        b,
-        part_colours::colour(m, part_colours::word_of(colours, b)),
-    )
-}
-
-// The refusal for a block of that standing: gone where it is free or doomed, 8 where its colour is outside the layout.
-pub fn refusal_of(gone: u32, s: Standing) -> u32
+// The refusal for a block in that state: gone where it is free or doomed, 8 outside the layout.
+pub fn refusal_of(gone: u32, s: State) -> u32
     ensures { λ x. ⌜ x ≡ refusalOf gone s ⌝ }
 {
     match s {
-        Standing::Live => 0,
-        Standing::Gone => gone,
-        Standing::Damaged => machine::DAMAGE,
+        State::LiveWhite => 0,
+        State::Doomed => gone,
+        State::Grey => 0,
+        State::Black => 0,
+        State::Free => gone,
+        State::Outside => machine::DAMAGE,
     }
 }
 
 // Refusals 8 and 5 for the block to read or write.
 pub fn holder_refusal(m: u32, phase: u32, position: u32, colours: &[u32], b: u32) -> u32
-    requires { ⌜ (m ≤ 16384) × Block (length (now colours)) b ⌝ }
+    requires { ⌜ (m ≤ 16384) × CellsFit m (now colours) × Block m b ⌝ }
     ensures { λ x. ⌜ ((r : Regs) (ws bs : List ℕ) → r .blocks ≡ m → r .phase ≡ phase → r .position ≡ position → x ≡ holderRefusal (heap r ws (now (colours .entry)) bs) b) ⌝ }
 {
-    refusal_of(machine::GONE, standing_of(m, phase, position, colours, b))
+    refusal_of(
+        machine::GONE,
+        part_state::state_at(m, phase, position, colours, b),
+    )
 }
 
 // Refusals 8 and 6 for the target, which is 0 or a block.
 pub fn target_refusal(m: u32, phase: u32, position: u32, colours: &[u32], t: u32) -> u32
-    requires { ⌜ (m ≤ 16384) × (isBlockOrNone (length (now colours)) t ≡ true) ⌝ }
+    requires { ⌜ (m ≤ 16384) × CellsFit m (now colours) × (t ≢ 0 → Block m t) ⌝ }
     ensures { λ x. ⌜ ((r : Regs) (ws bs : List ℕ) → r .blocks ≡ m → r .phase ≡ phase → r .position ≡ position → x ≡ targetRefusal (heap r ws (now (colours .entry)) bs) t) ⌝ }
 {
     if t == 0 {
@@ -217,7 +184,7 @@ pub fn target_refusal(m: u32, phase: u32, position: u32, colours: &[u32], t: u32
     }
     refusal_of(
         machine::TARGET_GONE,
-        standing_of(m, phase, position, colours, t),
+        part_state::state_at(m, phase, position, colours, t),
     )
 }
 

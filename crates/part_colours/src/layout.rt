@@ -1,14 +1,12 @@
 // The audit's part on the colour layout: the grey list has exactly the grey blocks.
-use super::colour;
-use super::is_block;
+use super::colour_of;
 use super::word_of;
 use machine::Colour;
 ghost use mathlib.Core.Path.{_≡_};
-ghost use Prim.Native.Nat.{_≤_};
-ghost use lib.ListN.{length};
+ghost use Prim.Native.Nat.{ℕ, _≤_};
 ghost use Rattle.machine.specs.Tests.{if_then_else_};
-ghost use Rattle.machine.specs.Colouring.{colourWord};
-ghost use Rattle.machine.specs.Audit.{countFrom, walk, greyColour, isGrey};
+ghost use Rattle.machine.specs.Lists.{countFrom, walk};
+ghost use Rattle.machine.specs.Colouring.{coloured, wordIn, greyColour, isGrey, CellsFit, greysPass};
 
 // Whether the colour is grey.
 pub fn grey_colour(c: Colour) -> bool
@@ -23,15 +21,12 @@ pub fn grey_colour(c: Colour) -> bool
     }
 }
 
-// Whether b is a grey block.
+// Whether b, which is any number, is a grey block.
 pub fn is_grey(m: u32, colours: &[u32], b: u32) -> bool
-    requires { ⌜ (m ≤ 16384) × (length (now colours) ≡ m) ⌝ }
-    ensures { λ r. ⌜ r ≡ isGrey m (now (colours .entry)) b ⌝ }
+    requires { ⌜ (m ≤ 16384) × CellsFit m (now colours) ⌝ }
+    ensures { λ r. ⌜ ((g : ℕ) → r ≡ isGrey (coloured m g (now (colours .entry))) b) ⌝ }
 {
-    if is_block(m, b) {
-        return grey_colour(colour(m, word_of(colours, b)));
-    }
-    false
+    grey_colour(colour_of(m, colours, b))
 }
 
 // What a block adds to a count of blocks: 1 where it is counted.
@@ -45,9 +40,9 @@ pub fn one(counted: bool) -> u32
 }
 
 // The number of grey blocks.
-pub fn count_greys(m: u32, colours: &[u32]) -> u32
-    requires { ⌜ (m ≤ 16384) × (length (now colours) ≡ m) ⌝ }
-    ensures { λ r. ⌜ r ≡ countFrom (isGrey m (now (colours .entry))) m 2 ⌝ }
+pub fn count_greys(m: u32, head: u32, colours: &[u32]) -> u32
+    requires { ⌜ (m ≤ 16384) × CellsFit m (now colours) ⌝ }
+    ensures { λ r. ⌜ r ≡ countFrom (isGrey (coloured m head (now (colours .entry)))) m 2 ⌝ }
 {
     let mut n = 0;
     let mut b = machine::FIRST;
@@ -59,9 +54,9 @@ pub fn count_greys(m: u32, colours: &[u32]) -> u32
 }
 
 // Whether n steps along the grey list from head on meet only grey blocks and lead to its end.
-pub fn walk_greys(m: u32, colours: &[u32], head: u32, n: u32) -> bool
-    requires { ⌜ (m ≤ 16384) × (length (now colours) ≡ m) ⌝ }
-    ensures { λ r. ⌜ r ≡ walk (isGrey m (now (colours .entry))) (colourWord (now (colours .entry))) 1 n head ⌝ }
+pub fn walk_greys(m: u32, head: u32, colours: &[u32], n: u32) -> bool
+    requires { ⌜ (m ≤ 16384) × CellsFit m (now colours) ⌝ }
+    ensures { λ r. ⌜ r ≡ walk (isGrey (coloured m head (now (colours .entry)))) (wordIn (coloured m head (now (colours .entry)))) 1 n head ⌝ }
 {
     let mut a = head;
     let mut left = n;
@@ -78,8 +73,8 @@ pub fn walk_greys(m: u32, colours: &[u32], head: u32, n: u32) -> bool
 
 // Whether the grey list that starts at head has exactly the grey blocks.
 pub fn greys_pass(m: u32, head: u32, colours: &[u32]) -> bool
-    requires { ⌜ (m ≤ 16384) × (length (now colours) ≡ m) ⌝ }
-    ensures { λ r. ⌜ r ≡ walk (isGrey m (now (colours .entry))) (colourWord (now (colours .entry))) 1 (countFrom (isGrey m (now (colours .entry))) m 2) head ⌝ }
+    requires { ⌜ (m ≤ 16384) × CellsFit m (now colours) ⌝ }
+    ensures { λ r. ⌜ r ≡ greysPass (coloured m head (now (colours .entry))) ⌝ }
 {
-    walk_greys(m, colours, head, count_greys(m, colours))
+    walk_greys(m, head, colours, count_greys(m, head, colours))
 }

@@ -10,9 +10,10 @@ ghost use Prim.Native.Nat.{_+_, _%_, _≤_};
 ghost use lib.ListN.{length};
 ghost use Rattle.machine.specs.WellFormed.{Block};
 ghost use Rattle.machine.specs.Block.{isBlock};
-ghost use Rattle.machine.specs.Colouring.{colour, colourWord, paint, toGrey, toBlack, greyWhite, freeColour, freshColours};
+ghost use Rattle.machine.specs.Colouring.{coloured, colour, colourWord, paint, colourIn, repaint, toGrey, toBlack, greyWhite, freeColour, isFree, CellsFit, freshColours};
 ghost use Rattle.machine.specs.Seen.{seen};
 ghost use Rattle.machine.specs.Tests.{if_then_else_};
+ghost use Prim.Native.Nat.{ℕ};
 
 // Whether b is a block number in a heap of m blocks.
 pub fn is_block(m: u32, b: u32) -> bool
@@ -49,17 +50,50 @@ pub fn word_of(colours: &[u32], b: u32) -> u32
     colours[b as usize - 2]
 }
 
+// The colour of the block b.
+pub fn colour_at(m: u32, colours: &[u32], b: u32) -> Colour
+    requires { ⌜ (m ≤ 16384) × CellsFit m (now colours) × Block m b ⌝ }
+    ensures { λ c. ⌜ ((g : ℕ) → c ≡ colourIn (coloured m g (now (colours .entry))) b) ⌝ }
+{
+    colour(m, word_of(colours, b))
+}
+
+// The colour of b, which is any number: outside the layout where b is no block.
+pub fn colour_of(m: u32, colours: &[u32], b: u32) -> Colour
+    requires { ⌜ (m ≤ 16384) × CellsFit m (now colours) ⌝ }
+    ensures { λ c. ⌜ ((g : ℕ) → c ≡ colourIn (coloured m g (now (colours .entry))) b) ⌝ }
+{
+    if is_block(m, b) {
+        return colour_at(m, colours, b);
+    }
+    Colour::Outside
+}
+
 // The block b gets the colour word.
-pub fn paint(colours: &mut [u32], b: u32, word: u32)
+fn set_word(colours: &mut [u32], b: u32, word: u32)
     requires { ⌜ Block (length (now colours)) b ⌝ }
     ensures { λ _. ⌜ now (colours .exit) ≡ paint b word (now (colours .entry)) ⌝ }
 {
     colours[b as usize - 2] = word;
 }
 
+// The block b gets the colour c, which is white, black or free: another asks for a list, or is none.
+pub fn paint(colours: &mut [u32], b: u32, c: Colour)
+    requires { ⌜ Block (length (now colours)) b ⌝ }
+    ensures { λ _. ⌜ now (colours .exit) ≡ repaint b c (now (colours .entry)) ⌝ }
+{
+    match c {
+        Colour::White => set_word(colours, b, machine::WHITE),
+        Colour::Grey => {}
+        Colour::Black => set_word(colours, b, machine::BLACK),
+        Colour::Free => set_word(colours, b, machine::FREE),
+        Colour::Outside => {}
+    }
+}
+
 // The colour word of b, or white where b is no block.
 pub fn word_met(m: u32, colours: &[u32], b: u32) -> u32
-    requires { ⌜ (m ≤ 16384) × (length (now colours) ≡ m) ⌝ }
+    requires { ⌜ (m ≤ 16384) × CellsFit m (now colours) ⌝ }
     ensures { λ r. ⌜ r ≡ (if isBlock m b then colourWord (now (colours .entry)) b else 0) ⌝ }
 {
     if is_block(m, b) {
@@ -81,29 +115,45 @@ pub fn free_colour(c: Colour) -> bool
     }
 }
 
+// Whether the block b is free.
+pub fn free_at(m: u32, colours: &[u32], b: u32) -> bool
+    requires { ⌜ (m ≤ 16384) × CellsFit m (now colours) × Block m b ⌝ }
+    ensures { λ r. ⌜ ((g : ℕ) → r ≡ isFree (coloured m g (now (colours .entry))) b) ⌝ }
+{
+    free_colour(colour_at(m, colours, b))
+}
+
+// Whether b, which is any number, is a free block.
+pub fn is_free(m: u32, colours: &[u32], b: u32) -> bool
+    requires { ⌜ (m ≤ 16384) × CellsFit m (now colours) ⌝ }
+    ensures { λ r. ⌜ ((g : ℕ) → r ≡ isFree (coloured m g (now (colours .entry))) b) ⌝ }
+{
+    free_colour(colour_of(m, colours, b))
+}
+
 // The block b goes to the front of the grey list that starts at head. Answers the head afterwards.
 pub fn to_grey(head: u32, colours: &mut [u32], b: u32) -> u32
     requires { ⌜ Block (length (now colours)) b ⌝ }
-    ensures { λ r. ⌜ (record { head = r; cells = now (colours .exit) }) ≡ toGrey b (record { head = head; cells = now (colours .entry) }) ⌝ }
+    ensures { λ r. ⌜ ((m : ℕ) → coloured m r (now (colours .exit)) ≡ toGrey b (coloured m head (now (colours .entry)))) ⌝ }
 {
-    paint(colours, b, head);
+    set_word(colours, b, head);
     b
 }
 
 // The first block of the grey list, head, is taken off and made black. Answers the head afterwards.
 pub fn to_black(head: u32, colours: &mut [u32]) -> u32
     requires { ⌜ Block (length (now colours)) head ⌝ }
-    ensures { λ r. ⌜ (record { head = r; cells = now (colours .exit) }) ≡ toBlack (record { head = head; cells = now (colours .entry) }) ⌝ }
+    ensures { λ r. ⌜ ((m : ℕ) → coloured m r (now (colours .exit)) ≡ toBlack (coloured m head (now (colours .entry)))) ⌝ }
 {
     let next = word_of(&colours[..], head);
-    paint(colours, head, machine::BLACK);
+    set_word(colours, head, machine::BLACK);
     next
 }
 
 // b, which is 0 or a block, goes to the front of the grey list that starts at head if it is a white block. Answers the head afterwards.
 pub fn grey_white(head: u32, colours: &mut [u32], b: u32) -> u32
     requires { ⌜ (b ≢ 0 → Block (length (now colours)) b) ⌝ }
-    ensures { λ r. ⌜ (record { head = r; cells = now (colours .exit) }) ≡ greyWhite (length (now (colours .entry))) b (record { head = head; cells = now (colours .entry) }) ⌝ }
+    ensures { λ r. ⌜ ((m : ℕ) → CellsFit m (now (colours .entry)) → coloured m r (now (colours .exit)) ≡ greyWhite b (coloured m head (now (colours .entry)))) ⌝ }
 {
     if b != 0 {
         if word_of(&colours[..], b) == machine::WHITE {
@@ -122,8 +172,8 @@ pub fn less_two(b: u32) -> u32
 
 // What the reference b is to the block that is marked.
 pub fn seen(m: u32, colours: &[u32], b: u32) -> Seen
-    requires { ⌜ (m ≤ 16384) × (length (now colours) ≡ m) ⌝ }
-    ensures { λ r. ⌜ r ≡ seen m (now (colours .entry)) b ⌝ }
+    requires { ⌜ (m ≤ 16384) × CellsFit m (now colours) ⌝ }
+    ensures { λ r. ⌜ ((g : ℕ) → r ≡ seen (coloured m g (now (colours .entry))) b) ⌝ }
 {
     let i = less_two(b);
     if i < m {

@@ -9,7 +9,7 @@ use mathlib.Core.Logic.{_≢_}
 use native.Mathlib.Omega.{arith}
 use Rattle.machine.specs.Tests.{_▷_}
 use Rattle.machine.specs.Heap.{Heap}
-use Rattle.machine.specs.Standing.{holderRefusal}
+use Rattle.machine.specs.State.{holderRefusal}
 use Rattle.machine.specs.Field.{linkRefusal, walkRefusal, fieldBlock}
 use Rattle.machine.proofs.Tests.{by-eq}
 use Rattle.machine.proofs.Fields.{OnWay, way-off, way-ends}

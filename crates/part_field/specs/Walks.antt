@@ -8,7 +8,7 @@ use mathlib.Core.Logic.{_≢_}
 use Rattle.machine.specs.Tests.{_▷_}
 use Rattle.machine.specs.WellFormed.{Block}
 use Rattle.machine.specs.Heap.{Heap}
-use Rattle.machine.specs.Standing.{holderRefusal}
+use Rattle.machine.specs.State.{holderRefusal}
 use Rattle.machine.specs.Field.{linkRefusal, walkRefusal, fieldBlock}
 use Rattle.part_field.specs.declared.Walked.{Walked}
 

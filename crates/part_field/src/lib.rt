@@ -6,7 +6,7 @@ ghost use Rattle.machine.specs.Tests.{_▷_};
 ghost use Rattle.machine.specs.WellFormed.{Block};
 ghost use Rattle.machine.specs.Heap.{heap};
 ghost use Rattle.machine.specs.Ready.{Ready};
-ghost use Rattle.machine.specs.Standing.{holderRefusal};
+ghost use Rattle.machine.specs.State.{holderRefusal};
 ghost use Rattle.part_field.specs.Walks.{Walks};
 ghost use Rattle.machine.specs.Field.{fieldPlace, linkRefusal, walkRefusal};
 

@@ -7,13 +7,13 @@ use part_step::End;
 use part_step::Stretch;
 ghost use mathlib.Core.Path.{_≡_};
 ghost use mathlib.Core.Logic.{_≢_};
-ghost use Prim.Native.Nat.{_≤_, _<_};
+ghost use Prim.Native.Nat.{ℕ, _≤_, _<_};
 ghost use lib.ListN.{length};
 ghost use Rattle.machine.specs.declared.Step.the-variants.{Mark};
 ghost use Rattle.machine.specs.Registers.{marking};
 ghost use Rattle.machine.specs.WellFormed.{Block};
 ghost use Rattle.machine.specs.Block.{references};
-ghost use Rattle.machine.specs.Colouring.{greyAll};
+ghost use Rattle.machine.specs.Colouring.{coloured, greyAll, CellsFit};
 ghost use Rattle.machine.specs.Heap.{heap};
 ghost use Rattle.machine.specs.Ready.{Ready};
 ghost use Rattle.machine.specs.Seen.{Named};
@@ -30,8 +30,8 @@ pub enum Looked {
 
 // What the references among eight words are, from set bit to set bit of the byte.
 pub fn seen_all(m: u32, colours: &[u32], part: &[u32], byte: u8) -> Looked
-    requires { ⌜ (m ≤ 16384) × (length (now colours) ≡ m) × (length (now part) ≡ 8) ⌝ }
-    ensures { λ x. ⌜ x ≡ looked (allSound m (now (colours .entry)) (references (now (part .entry)) byte)) (whites m (now (colours .entry)) (now (part .entry)) byte) ⌝ }
+    requires { ⌜ (m ≤ 16384) × CellsFit m (now colours) × (length (now part) ≡ 8) ⌝ }
+    ensures { λ x. ⌜ ((g : ℕ) → x ≡ looked (allSound (coloured m g (now (colours .entry))) (references (now (part .entry)) byte)) (whites (coloured m g (now (colours .entry))) (now (part .entry)) byte)) ⌝ }
 {
     let mut rest = byte as u32;
     let mut white: u32 = 0;
@@ -55,7 +55,7 @@ pub fn seen_all(m: u32, colours: &[u32], part: &[u32], byte: u8) -> Looked
 // Each white block named by a word whose bit is set becomes grey, in order. Answers the grey head afterwards.
 pub fn grey_all(head: u32, colours: &mut [u32], part: &[u32], bits: u32) -> u32
     requires { ⌜ (bits < 256) × (length (now part) ≡ 8) × Named (length (now colours)) (references (now part) bits) ⌝ }
-    ensures { λ g. ⌜ (record { head = g; cells = now (colours .exit) }) ≡ greyAll (length (now (colours .entry))) (references (now (part .entry)) bits) (record { head = head; cells = now (colours .entry) }) ⌝ }
+    ensures { λ g. ⌜ ((m : ℕ) → CellsFit m (now (colours .entry)) → coloured m g (now (colours .exit)) ≡ greyAll (references (now (part .entry)) bits) (coloured m head (now (colours .entry)))) ⌝ }
 {
     let mut g = head;
     let mut rest = bits;

@@ -6,12 +6,13 @@ ghost use mathlib.Core.List.{List};
 ghost use Prim.Native.Nat.{ℕ, _*_, _≤_};
 ghost use lib.ListN.{length};
 ghost use Rattle.machine.specs.WellFormed.{Block};
+ghost use Rattle.machine.specs.Colouring.{CellsFit};
 ghost use Rattle.machine.specs.Heap.{heap};
 ghost use Rattle.machine.specs.Store.{barrier, putNumber, putReference};
 
 // The barrier: while marking, a white target is greyed, which is 0 or a block. Answers the registers afterwards.
 pub fn barrier(r: Regs, colours: &mut [u32], t: u32) -> Regs
-    requires { ⌜ (length (now colours) ≡ r .blocks) × (t ≢ 0 → Block (r .blocks) t) ⌝ }
+    requires { ⌜ CellsFit (r .blocks) (now colours) × (t ≢ 0 → Block (r .blocks) t) ⌝ }
     ensures { λ s. ⌜ ((ws bs : List ℕ) → heap s ws (now (colours .exit)) bs ≡ barrier t (heap r ws (now (colours .entry)) bs)) ⌝ }
 {
     let mut s = r;

@@ -20,11 +20,10 @@ use native.Mathlib.Numerals.{add-one}
 use lib.Dec.{eqb}
 use lib.ListN.{getD, length}
 use borrow.Author.Tests.{eq-eqb, ne-eqb}
-use Rattle.machine.specs.declared.Colour.{Colour}
 use Rattle.machine.specs.Tests.{if_then_else_}
 use Rattle.machine.specs.Block.{base, wordOf}
-use Rattle.machine.specs.Colouring.{freeColour, colour, colourWord}
-use Rattle.machine.specs.Heap.{Heap}
+use Rattle.machine.specs.Colouring.{Colouring, isFree}
+use Rattle.machine.specs.Heap.{Heap, colouring}
 use Rattle.machine.specs.Entry.{isBlockOrNone}
 use Rattle.machine.specs.WellFormed.{Block}
 use Rattle.machine.specs.Several.{linkOf, frees, firstFrees, listWalks, amongst, distinct}
@@ -33,41 +32,44 @@ use Rattle.machine.proofs.Entering.{none-or-block}
 use Rattle.machine.proofs.Walking.{onward, onward-link, walks-blocks, last-new, last-again}
 use Rattle.part_several.specs.Walk.{fitsAt, walkedTo, Within}
 
-module _ (m : ℕ) (ws cs : List ℕ) (a : ℕ) where
-  pub fits-none : a ≡ 0 → false ≡ fitsAt m ws cs a
+module _ (k : Colouring) (ws : List ℕ) (a : ℕ) where
+  abbrev m : ℕ
+  m = k .blocks
+
+  pub fits-none : a ≡ 0 → false ≡ fitsAt k ws a
   unfolding fitsAt
   fits-none z = simp (eq-eqb a 0 z)
 
-  pub fits-not-free : {c : Colour} (word : ℕ) {t : Bool} → a ≢ 0 → word ≡ colourWord cs a → c ≡ colour m word → t ≡ freeColour c → t ≡ false → false ≡ fitsAt m ws cs a
+  pub fits-not-free : {t : Bool} → a ≢ 0 → t ≡ isFree k a → t ≡ false → false ≡ fitsAt k ws a
   unfolding fitsAt
-  fits-not-free word n w c t f =
-      let e : freeColour (colour m (colourWord cs a)) ≡ false = rw (← w, ← c) (sym t ∙ f) in
+  fits-not-free n t f =
+      let e : isFree k a ≡ false = sym t ∙ f in
       simp (ne-eqb a 0 n, e)
 
-  pub fits-link : {c : Colour} (word : ℕ) {t x : Bool} (link : ℕ) → a ≢ 0 → word ≡ colourWord cs a → c ≡ colour m word → t ≡ freeColour c → t ≡ true
-      → link ≡ getD ws (base a) 0 → x ≡ isBlockOrNone m link → x ≡ fitsAt m ws cs a
+  pub fits-link : {t x : Bool} (link : ℕ) → a ≢ 0 → t ≡ isFree k a → t ≡ true
+      → link ≡ getD ws (base a) 0 → x ≡ isBlockOrNone m link → x ≡ fitsAt k ws a
   unfolding fitsAt
-  fits-link word link n w c t f l x =
-      let e : freeColour (colour m (colourWord cs a)) ≡ true = rw (← w, ← c) (sym t ∙ f) in
+  fits-link link n t f l x =
+      let e : isFree k a ≡ true = sym t ∙ f in
       simp (ne-eqb a 0 n, e) (x ∙ ap (isBlockOrNone m) (l ∙ rw (add-zero (base a)) refl))
 
-  pub fits-block : (a ≢ 0 → Block m a) → fitsAt m ws cs a ≡ true → Block m a × (wordOf ws a 0 ≢ 0 → Block m (wordOf ws a 0))
+  pub fits-block : (a ≢ 0 → Block m a) → fitsAt k ws a ≡ true → Block m a × (wordOf ws a 0 ≢ 0 → Block m (wordOf ws a 0))
   unfolding fitsAt
   fits-block b e =
-      let u = both-true (not (eqb a 0)) (freeColour (colour m (colourWord cs a)) && isBlockOrNone m (wordOf ws a 0)) e in
-      let v = both-true (freeColour (colour m (colourWord cs a))) (isBlockOrNone m (wordOf ws a 0)) (u .1) in
+      let u = both-true (not (eqb a 0)) (isFree k a && isBlockOrNone m (wordOf ws a 0)) e in
+      let v = both-true (isFree k a) (isBlockOrNone m (wordOf ws a 0)) (u .1) in
       (b (differ a 0 (u .0)), none-or-block m (wordOf ws a 0) (v .1))
 
   -- the same of the link as the code reads it
-  pub fits-next : (a ≢ 0 → Block m a) → fitsAt m ws cs a ≡ true → getD ws (base a) 0 ≢ 0 → Block m (getD ws (base a) 0)
+  pub fits-next : (a ≢ 0 → Block m a) → fitsAt k ws a ≡ true → getD ws (base a) 0 ≢ 0 → Block m (getD ws (base a) 0)
   fits-next b e = rw (add-zero (base a)) at (fits-block b e .1)
 
-module _ (m : ℕ) (ws cs : List ℕ) (t n a l : ℕ) (i : t ≡ walkedTo m ws cs n a l) where
-  pub walked-on : (k : ℕ) → n ≡ k + 1 → fitsAt m ws cs a ≡ true → t ≡ walkedTo m ws cs k (getD ws (base a) 0) a
+module _ (c : Colouring) (ws : List ℕ) (t n a l : ℕ) (i : t ≡ walkedTo c ws n a l) where
+  pub walked-on : (k : ℕ) → n ≡ k + 1 → fitsAt c ws a ≡ true → t ≡ walkedTo c ws k (getD ws (base a) 0) a
   unfolding walkedTo
-  walked-on k e h = (simp h at (rw (e, add-one k) at i)) ∙ ap (λ (x : ℕ). walkedTo m ws cs k (getD ws x 0) a) (add-zero (base a))
+  walked-on k e h = (simp h at (rw (e, add-one k) at i)) ∙ ap (λ (x : ℕ). walkedTo c ws k (getD ws x 0) a) (add-zero (base a))
 
-  pub walked-off : (k : ℕ) → n ≡ k + 1 → fitsAt m ws cs a ≡ false → 0 ≡ t
+  pub walked-off : (k : ℕ) → n ≡ k + 1 → fitsAt c ws a ≡ false → 0 ≡ t
   unfolding walkedTo
   walked-off k e h = sym (simp h at (rw (e, add-one k) at i))
 
@@ -77,17 +79,17 @@ module _ (m : ℕ) (ws cs : List ℕ) (t n a l : ℕ) (i : t ≡ walkedTo m ws c
 
 module _ (h : Heap) where
   abbrev ends : ℕ → ℕ → ℕ → ℕ
-  ends n a l = walkedTo (h .regs .blocks) (h .words) (h .colours) n a l
+  ends n a l = walkedTo (colouring h) (h .words) n a l
 
   -- a step of the machine's walk is one of the code's
-  walks-step : (n a : ℕ) → listWalks (suc n) a h ≡ (fitsAt (h .regs .blocks) (h .words) (h .colours) a && listWalks n (linkOf h a) h)
+  walks-step : (n a : ℕ) → listWalks (suc n) a h ≡ (fitsAt (colouring h) (h .words) a && listWalks n (linkOf h a) h)
   unfolding listWalks fitsAt
   walks-step n a = by-test (eqb a 0)
       (λ z. simp z)
-      (λ z. by-test (freeColour (colour (h .regs .blocks) (colourWord (h .colours) a))) (λ f. simp (z, f)) (λ f. simp (z, f)))
+      (λ z. by-test (isFree (colouring h) a) (λ f. simp (z, f)) (λ f. simp (z, f)))
 
-  walks-both : (n a : ℕ) → listWalks (suc n) a h ≡ true → (fitsAt (h .regs .blocks) (h .words) (h .colours) a ≡ true) × (listWalks n (linkOf h a) h ≡ true)
-  walks-both n a e = both-true (fitsAt (h .regs .blocks) (h .words) (h .colours) a) (listWalks n (linkOf h a) h) (sym (walks-step n a) ∙ e)
+  walks-both : (n a : ℕ) → listWalks (suc n) a h ≡ true → (fitsAt (colouring h) (h .words) a ≡ true) × (listWalks n (linkOf h a) h ≡ true)
+  walks-both n a e = both-true (fitsAt (colouring h) (h .words) a) (listWalks n (linkOf h a) h) (sym (walks-step n a) ∙ e)
 
   pub walked-last : (n a l : ℕ) → listWalks (suc n) a h ≡ true → ends (suc n) a l ≡ onward h a n
   unfolding walkedTo onward
@@ -101,7 +103,7 @@ module _ (h : Heap) where
   pub walked-none : (n a l : ℕ) → listWalks n a h ≡ false → ends n a l ≡ 0
   unfolding walkedTo listWalks
   walked-none zero a l e = clash refl e
-  walked-none (suc n) a l e = by-test (fitsAt (h .regs .blocks) (h .words) (h .colours) a)
+  walked-none (suc n) a l e = by-test (fitsAt (colouring h) (h .words) a)
       (λ t. simp t (walked-none n (linkOf h a) a (simp t at (sym (walks-step n a) ∙ e))))
       (λ t. simp t)
 
@@ -110,7 +112,7 @@ module _ (h : Heap) where
   walks-fewer zero a e = refl
   walks-fewer (suc n) a e =
       let u = walks-both (suc n) a e in
-      walks-step n a ∙ both {a = fitsAt (h .regs .blocks) (h .words) (h .colours) a} (u .0) (walks-fewer n (linkOf h a) (u .1))
+      walks-step n a ∙ both {a = fitsAt (colouring h) (h .words) a} (u .0) (walks-fewer n (linkOf h a) (u .1))
 
   module _ (d : length (h .words) ≡ 8 * h .regs .blocks) where
     pub walks-within : (n a : ℕ) → listWalks n a h ≡ true → (a ≢ 0 → Block (h .regs .blocks) a) → Within (h .words) n a
@@ -118,7 +120,7 @@ module _ (h : Heap) where
     walks-within zero a e b = tt
     walks-within (suc n) a e b =
         let u = walks-both n a e in
-        let (k, l) = fits-block (h .regs .blocks) (h .words) (h .colours) a b (u .0) in
+        let (k, l) = fits-block (colouring h) (h .words) a b (u .0) in
         (k .low, omega arith, walks-within n (linkOf h a) (u .1) l)
 
 -- the walk as the code makes it, n blocks from the free head on, and the search for the last of them among the others

@@ -7,20 +7,20 @@ ghost use mathlib.Core.List.{List};
 ghost use Prim.Native.Nat.{ℕ, _≤_, _*_};
 ghost use lib.ListN.{length};
 ghost use Rattle.machine.specs.WellFormed.{Block};
+ghost use Rattle.machine.specs.Colouring.{coloured, CellsFit};
 ghost use Rattle.machine.specs.Heap.{heap};
 ghost use Rattle.machine.specs.Several.{frees, amongst, headRefusal, severalRefusal, takeSeveralRefusal};
 ghost use Rattle.part_several.specs.Walk.{fitsAt, walkedTo, Within};
 
 // Whether a is a block that can be taken: coloured free, with a link that is 0 or a block. It is 0 or a block.
 pub fn fits_at(m: u32, words: &[u32], colours: &[u32], a: u32) -> bool
-    requires { ⌜ (m ≤ 16384) × (length (now words) ≡ 8 * m) × (length (now colours) ≡ m) × (a ≢ 0 → Block m a) ⌝ }
-    ensures { λ x. ⌜ x ≡ fitsAt m (now (words .entry)) (now (colours .entry)) a ⌝ }
+    requires { ⌜ (m ≤ 16384) × (length (now words) ≡ 8 * m) × CellsFit m (now colours) × (a ≢ 0 → Block m a) ⌝ }
+    ensures { λ x. ⌜ ((g : ℕ) → x ≡ fitsAt (coloured m g (now (colours .entry))) (now (words .entry)) a) ⌝ }
 {
     if a == 0 {
         return false;
     }
-    let c = part_colours::colour(m, part_colours::word_of(colours, a));
-    if part_colours::free_colour(c) {
+    if part_colours::free_at(m, colours, a) {
         return part_checks::is_block_or_none(m, words[8 * (a as usize - 2)]);
     }
     false
@@ -28,8 +28,8 @@ pub fn fits_at(m: u32, words: &[u32], colours: &[u32], a: u32) -> bool
 
 // The last of n blocks that can be taken, from a on by their links; 0 where one of them can't.
 pub fn walked_to(m: u32, words: &[u32], colours: &[u32], head: u32, n: u32) -> u32
-    requires { ⌜ (m ≤ 16384) × (length (now words) ≡ 8 * m) × (length (now colours) ≡ m) × (head ≢ 0 → Block m head) ⌝ }
-    ensures { λ x. ⌜ x ≡ walkedTo m (now (words .entry)) (now (colours .entry)) n head 0 ⌝ }
+    requires { ⌜ (m ≤ 16384) × (length (now words) ≡ 8 * m) × CellsFit m (now colours) × (head ≢ 0 → Block m head) ⌝ }
+    ensures { λ x. ⌜ ((g : ℕ) → x ≡ walkedTo (coloured m g (now (colours .entry))) (now (words .entry)) n head 0) ⌝ }
 {
     let mut a = head;
     let mut last = 0;
@@ -81,7 +81,7 @@ pub fn head_refusal(head: u32, count: u32) -> u32
 
 // Refusals 8 and 7 for the first n of the free list.
 pub fn several_refusal(r: Regs, words: &[u32], colours: &[u32], n: u32) -> u32
-    requires { ⌜ (r .blocks ≤ 16384) × (length (now words) ≡ 8 * r .blocks) × (length (now colours) ≡ r .blocks) × (r .free ≢ 0 → Block (r .blocks) (r .free)) × (1 ≤ n) ⌝ }
+    requires { ⌜ (r .blocks ≤ 16384) × (length (now words) ≡ 8 * r .blocks) × CellsFit (r .blocks) (now colours) × (r .free ≢ 0 → Block (r .blocks) (r .free)) × (1 ≤ n) ⌝ }
     ensures { λ x. ⌜ ((bs : List ℕ) → x ≡ severalRefusal n (heap r (now (words .entry)) (now (colours .entry)) bs)) ⌝ }
 {
     let e = head_refusal(r.free, r.count);
@@ -103,7 +103,7 @@ pub fn several_refusal(r: Regs, words: &[u32], colours: &[u32], n: u32) -> u32
 
 // Refusals 8 and 5 for the holder, which is tested after the units, then 8 and 7 for the first n of the free list.
 pub fn take_several_refusal(r: Regs, words: &[u32], colours: &[u32], n: u32, b: u32) -> u32
-    requires { ⌜ (r .blocks ≤ 16384) × (length (now words) ≡ 8 * r .blocks) × (length (now colours) ≡ r .blocks) × (r .free ≢ 0 → Block (r .blocks) (r .free)) × (1 ≤ n) × (b ≢ 0 → Block (r .blocks) b) ⌝ }
+    requires { ⌜ (r .blocks ≤ 16384) × (length (now words) ≡ 8 * r .blocks) × CellsFit (r .blocks) (now colours) × (r .free ≢ 0 → Block (r .blocks) (r .free)) × (1 ≤ n) × (b ≢ 0 → Block (r .blocks) b) ⌝ }
     ensures { λ x. ⌜ ((bs : List ℕ) → x ≡ takeSeveralRefusal n b (heap r (now (words .entry)) (now (colours .entry)) bs)) ⌝ }
 {
     if b == 0 {

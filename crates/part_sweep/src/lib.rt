@@ -1,5 +1,6 @@
 // A unit that sweeps a block: by its colour the block is freed, whitened or passed, and the position goes on by one. In a row of such
 // units the sweep's end is met once, behind the last of them.
+use machine::Colour;
 use machine::Progress;
 use machine::Regs;
 use machine::Step;
@@ -9,11 +10,11 @@ ghost use mathlib.Core.Path.{_≡_};
 ghost use mathlib.Core.List.{List};
 ghost use Prim.Native.Nat.{ℕ, _+_, _-_, _≤_, _<_};
 ghost use lib.Dec.{ltb};
-ghost use lib.ListN.{length};
 ghost use Rattle.machine.specs.declared.Step.the-variants.{Reclaim};
 ghost use Rattle.machine.specs.Tests.{if_then_else_};
 ghost use Rattle.machine.specs.Registers.{sweeping, withPosition, sweepEnd};
 ghost use Rattle.machine.specs.WellFormed.{Block};
+ghost use Rattle.machine.specs.Colouring.{CellsFit};
 ghost use Rattle.machine.specs.Heap.{heap};
 ghost use Rattle.machine.specs.Ready.{Ready};
 ghost use Rattle.machine.specs.OneUnit.{whitened, act, unit, ended};
@@ -73,7 +74,7 @@ pub fn reclaim(r: Regs, words: &mut [u32], colours: &mut [u32], bytes: &mut [u8]
     }
     let at = 8 * (r.position as usize - 2);
     part_cells::clear(&mut words[at..at + 8], r.free);
-    part_colours::paint(colours, r.position, machine::FREE);
+    part_colours::paint(colours, r.position, Colour::Free);
     part_cells::clear_byte(bytes, r.position);
     let mut s = r;
     s.free = r.position;
@@ -83,10 +84,10 @@ pub fn reclaim(r: Regs, words: &mut [u32], colours: &mut [u32], bytes: &mut [u8]
 
 // Sweeping: the black block at the position becomes white.
 pub fn whiten(r: Regs, colours: &mut [u32]) -> Regs
-    requires { ⌜ (r .blocks ≤ 16384) × (length (now colours) ≡ r .blocks) × Block (r .blocks) (r .position) ⌝ }
+    requires { ⌜ (r .blocks ≤ 16384) × CellsFit (r .blocks) (now colours) × Block (r .blocks) (r .position) ⌝ }
     ensures { λ s. ⌜ ((ws bs : List ℕ) → heap (settled s) ws (now (colours .exit)) bs ≡ whitened (heap r ws (now (colours .entry)) bs)) × (s ≡ withPosition (r .position + 1) r) ⌝ }
 {
-    part_colours::paint(colours, r.position, machine::WHITE);
+    part_colours::paint(colours, r.position, Colour::White);
     onward(r)
 }
 

@@ -1,4 +1,5 @@
 // Taking a block: the tests of the holder and of the free list, then the first free block is taken, coloured and held.
+use machine::Colour;
 use machine::Regs;
 ghost use mathlib.Core.Path.{_≡_};
 ghost use mathlib.Core.Logic.{_≢_};
@@ -6,16 +7,17 @@ ghost use mathlib.Core.List.{List};
 ghost use Prim.Native.Nat.{ℕ, _≤_, _*_};
 ghost use lib.ListN.{length};
 ghost use Rattle.machine.specs.WellFormed.{Block};
+ghost use Rattle.machine.specs.Colouring.{repaint, CellsFit};
 ghost use Rattle.machine.specs.Heap.{heap};
-ghost use Rattle.machine.specs.Allocate.{firstFits, listRefusal, newColour, taken, held, takeRefusal};
+ghost use Rattle.machine.specs.State.{newColour};
+ghost use Rattle.machine.specs.Allocate.{firstFits, listRefusal, taken, held, takeRefusal};
 
 // Whether the first free block is coloured free and its link is 0 or a block.
 pub fn first_fits(r: Regs, words: &[u32], colours: &[u32]) -> bool
-    requires { ⌜ (r .blocks ≤ 16384) × (length (now words) ≡ 8 * r .blocks) × (length (now colours) ≡ r .blocks) × Block (r .blocks) (r .free) ⌝ }
+    requires { ⌜ (r .blocks ≤ 16384) × (length (now words) ≡ 8 * r .blocks) × CellsFit (r .blocks) (now colours) × Block (r .blocks) (r .free) ⌝ }
     ensures { λ x. ⌜ ((bs : List ℕ) → x ≡ firstFits (heap r (now (words .entry)) (now (colours .entry)) bs)) ⌝ }
 {
-    let c = part_colours::colour(r.blocks, part_colours::word_of(colours, r.free));
-    if part_colours::free_colour(c) {
+    if part_colours::free_at(r.blocks, colours, r.free) {
         return part_checks::is_block_or_none(r.blocks, words[8 * (r.free as usize - 2)]);
     }
     false
@@ -23,7 +25,7 @@ pub fn first_fits(r: Regs, words: &[u32], colours: &[u32]) -> bool
 
 // Refusals 8 and 7 for the free list.
 pub fn list_refusal(r: Regs, words: &[u32], colours: &[u32]) -> u32
-    requires { ⌜ (r .blocks ≤ 16384) × (length (now words) ≡ 8 * r .blocks) × (length (now colours) ≡ r .blocks) × (r .free ≢ 0 → Block (r .blocks) (r .free)) ⌝ }
+    requires { ⌜ (r .blocks ≤ 16384) × (length (now words) ≡ 8 * r .blocks) × CellsFit (r .blocks) (now colours) × (r .free ≢ 0 → Block (r .blocks) (r .free)) ⌝ }
     ensures { λ x. ⌜ ((bs : List ℕ) → x ≡ listRefusal (heap r (now (words .entry)) (now (colours .entry)) bs)) ⌝ }
 {
     if r.free == 0 {
@@ -41,24 +43,21 @@ pub fn list_refusal(r: Regs, words: &[u32], colours: &[u32]) -> u32
     machine::DAMAGE
 }
 
-// The colour word of the new block b.
-pub fn new_colour(r: Regs, b: u32) -> u32
-    ensures { λ x. ⌜ x ≡ newColour r b ⌝ }
+// The new block b gets its colour.
+fn colour_new(r: Regs, colours: &mut [u32], b: u32)
+    requires { ⌜ Block (length (now colours)) b ⌝ }
+    ensures { λ _. ⌜ now (colours .exit) ≡ repaint b (newColour r b) (now (colours .entry)) ⌝ }
 {
-    if r.phase == machine::MARKING {
-        return machine::BLACK;
+    if part_state::may_be_black(r.phase, r.position, b) {
+        part_colours::paint(colours, b, Colour::Black);
+    } else {
+        part_colours::paint(colours, b, Colour::White);
     }
-    if r.phase == machine::SWEEPING {
-        if r.position <= b {
-            return machine::BLACK;
-        }
-    }
-    machine::WHITE
 }
 
 // The first free block is taken off the free list, its word 0 zeroed, and coloured. Answers the registers afterwards.
 pub fn take(r: Regs, words: &mut [u32], colours: &mut [u32]) -> Regs
-    requires { ⌜ (length (now words) ≡ 8 * r .blocks) × (length (now colours) ≡ r .blocks) × Block (r .blocks) (r .free) × (1 ≤ r .count) ⌝ }
+    requires { ⌜ (length (now words) ≡ 8 * r .blocks) × CellsFit (r .blocks) (now colours) × Block (r .blocks) (r .free) × (1 ≤ r .count) ⌝ }
     ensures { λ s. ⌜ ((bs : List ℕ) → heap s (now (words .exit)) (now (colours .exit)) bs ≡ taken (heap r (now (words .entry)) (now (colours .entry)) bs)) ⌝ }
 {
     let at = 8 * (r.free as usize - 2);
@@ -66,7 +65,7 @@ pub fn take(r: Regs, words: &mut [u32], colours: &mut [u32]) -> Regs
     s.free = words[at];
     s.count = r.count - 1;
     words[at] = 0;
-    part_colours::paint(colours, r.free, new_colour(r, r.free));
+    colour_new(r, colours, r.free);
     s
 }
 
@@ -86,7 +85,7 @@ pub fn hold(r: Regs, words: &mut [u32], bytes: &mut [u8], b: u32, w: u32, x: u32
 
 // Refusals 8 and 5 for the holder, which is tested after the units, then 8 and 7 for the free list.
 pub fn take_refusal(r: Regs, words: &[u32], colours: &[u32], b: u32) -> u32
-    requires { ⌜ (r .blocks ≤ 16384) × (length (now words) ≡ 8 * r .blocks) × (length (now colours) ≡ r .blocks) × (r .free ≢ 0 → Block (r .blocks) (r .free)) × (b ≢ 0 → Block (r .blocks) b) ⌝ }
+    requires { ⌜ (r .blocks ≤ 16384) × (length (now words) ≡ 8 * r .blocks) × CellsFit (r .blocks) (now colours) × (r .free ≢ 0 → Block (r .blocks) (r .free)) × (b ≢ 0 → Block (r .blocks) b) ⌝ }
     ensures { λ x. ⌜ ((bs : List ℕ) → x ≡ takeRefusal b (heap r (now (words .entry)) (now (colours .entry)) bs)) ⌝ }
 {
     if b == 0 {

@@ -11,14 +11,12 @@ ghost use mathlib.Core.Logic.{_≢_};
 ghost use mathlib.Core.List.{List};
 ghost use Prim.Native.Nat.{ℕ, _≤_};
 ghost use lib.ListN.{length};
-ghost use Rattle.machine.specs.Tests.{if_then_else_};
 ghost use Rattle.machine.specs.Registers.{idle, marking};
-ghost use Rattle.machine.specs.Block.{isBlock};
-ghost use Rattle.machine.specs.Colouring.{white, colourWord};
+ghost use Rattle.machine.specs.Colouring.{coloured, CellsFit};
 ghost use Rattle.machine.specs.WellFormed.{Block};
 ghost use Rattle.machine.specs.Heap.{heap};
 ghost use Rattle.machine.specs.Ready.{Ready};
-ghost use Rattle.machine.specs.OneUnit.{metBlock, begun, turned};
+ghost use Rattle.machine.specs.OneUnit.{wordMet, begun, turned};
 ghost use Rattle.machine.specs.Units.{run, ran};
 ghost use Rattle.machine.specs.Allocate.{unitsDue};
 ghost use Rattle.part_step.specs.declared.End.the-variants.{Finished};
@@ -53,8 +51,8 @@ pub fn turn(r: Regs) -> Regs
 // The colour word of the block that a unit meets: the root when idle, the first grey block while marking, else the block at the
 // position. It is white where there is none.
 pub fn met_word(r: Regs, colours: &[u32]) -> u32
-    requires { ⌜ (r .blocks ≤ 16384) × (length (now colours) ≡ r .blocks) × (r .phase ≢ idle → r .phase ≢ marking → Block (r .blocks) (r .position)) ⌝ }
-    ensures { λ w. ⌜ w ≡ (if isBlock (r .blocks) (metBlock r) then colourWord (now (colours .entry)) (metBlock r) else white) ⌝ }
+    requires { ⌜ (r .blocks ≤ 16384) × CellsFit (r .blocks) (now colours) × (r .phase ≢ idle → r .phase ≢ marking → Block (r .blocks) (r .position)) ⌝ }
+    ensures { λ w. ⌜ w ≡ wordMet r (coloured (r .blocks) (r .grey) (now (colours .entry))) ⌝ }
 {
     let phase = r.phase;
     match phase {

@@ -1,72 +1,45 @@
 -- The audit's meaning.
 --     audit-meaning        the audit's test is true exactly where the heap is well-formed, for every heap
 --     audit-means          the call: 1 exactly there, else 0; no refusal, no units, the heap as it was
--- The parts that meaning-over speaks of are, for this colour layout, the sentences of well-formed, one for one.
+-- The audit's test is a conjunction, each part of which says sentences of well-formed.
 -- Assumes nothing.
 use mathlib.Core.Path.{_≡_, refl}
 use mathlib.Core.Logic.{_↔_}
-use mathlib.Core.Bool.{true, false}
+use mathlib.Core.Bool.{true, false, _&&_}
 use native.Mathlib.Omega.{arith}
-use Rattle.machine.specs.Heap.{Heap}
-use Rattle.machine.specs.Audit.{passes, audit}
+use lib.Dec.{eqb}
+use borrow.Author.Tests.{eqb-true, eq-eqb}
+use Rattle.machine.specs.Registers.{marking}
+use Rattle.machine.specs.Heap.{Heap, colouring}
+use Rattle.machine.specs.Entry.{entry}
+use Rattle.machine.specs.Audit.{allFrom, layoutPasses, mayName, blockPasses, freesPass, passes, audit}
 use Rattle.machine.specs.WellFormed.{WellFormed}
-use Rattle.machine.proofs.Tests.{by-test, clash}
-use Rattle.theory_audit.specs.Parts.{Parted}
-use Rattle.theory_audit.specs.GreyList.{Greys}
+use Rattle.machine.proofs.Tests.{both-true, both, by-test, clash}
 use Rattle.theory_audit.specs.Meaning.{AuditMeans}
-use Rattle.theory_audit.proofs.ColourLayout.{layout-meaning}
-use Rattle.theory_audit.proofs.Over.{meaning-over}
+use Rattle.theory_audit.proofs.Formed.{Tests, tests-formed, formed-tests}
 
 module _ (h : Heap) where
-  -- the parts are all of well-formed, sentence by sentence
-  whole : Parted h (Greys h) → WellFormed h
-  whole p =
-      let f = p .formed in
-      record {
-        fitting = f .fitting;
-        registers = f .registers;
-        colours = p .legal .colours;
-        greys = p .greys;
-        frees = f .frees;
-        laid = f .laid;
-        counted = f .counted;
-        greyHead = p .greyHead;
-        greyless = f .greyless;
-        blackless = f .blackless;
-        swept = f .swept;
-        rootMarked = f .rootMarked;
-        namedMarked = f .namedMarked;
-        rootLive = f .rootLive;
-        namedLive = f .namedLive;
-      }
+  -- the audit's test in its parts
+  passes-parts : passes h ≡ true → Tests h
+  unfolding passes
+  passes-parts e =
+      let r = h .regs in
+      let frees = freesPass r (h .words) (colouring h) in
+      let root = mayName r (colouring h) (eqb (r .phase) marking) (r .root) in
+      let blocks = allFrom (blockPasses h) (r .blocks) 2 in
+      let layout = layoutPasses (colouring h) in
+      let a = both-true (eqb (entry h) 0) (layout && (blocks && (root && frees))) e in
+      let b = both-true layout (blocks && (root && frees)) (a .1) in
+      let c = both-true blocks (root && frees) (b .1) in
+      let d = both-true root frees (c .1) in
+      record { entered = eqb-true (entry h) 0 (a .0); layout = b .0; blocks = c .0; root = d .0; frees = d .1 }
 
-  parted : WellFormed h → Parted h (Greys h)
-  parted w =
-      record {
-        legal = record { colours = w .colours };
-        greys = w .greys;
-        greyHead = w .greyHead;
-        formed =
-            record {
-              fitting = w .fitting;
-              registers = w .registers;
-              frees = w .frees;
-              laid = w .laid;
-              counted = w .counted;
-              greyless = w .greyless;
-              blackless = w .blackless;
-              swept = w .swept;
-              rootMarked = w .rootMarked;
-              namedMarked = w .namedMarked;
-              rootLive = w .rootLive;
-              namedLive = w .namedLive;
-            };
-      }
+  parts-pass : Tests h → passes h ≡ true
+  unfolding passes
+  parts-pass t = both (eq-eqb (entry h) 0 (t .entered)) (both (t .layout) (both (t .blocks) (both (t .root) (t .frees))))
 
   pub audit-meaning : (passes h ≡ true) ↔ WellFormed h
-  audit-meaning =
-      let m = meaning-over h (layout-meaning h) in
-      (λ e. whole (m .0 e), λ w. m .1 (parted w))
+  audit-meaning = (λ e. tests-formed h (passes-parts e), λ w. parts-pass (formed-tests h w))
 
   value-one : audit h .answer .value ≡ 1 → passes h ≡ true
   unfolding audit

@@ -1,6 +1,6 @@
 -- The test of a block, colour by colour: what blockPasses establishes of a block of each colour, and what it asks for.
 --     NamesWell h b strict         all that b names may be named
---     white-holds, holds-white     white: doomed, or all that it names is 0 or live
+--     white-holds, holds-white     white: ahead of the sweep, so doomed, or all that it names is 0 or live
 --     grey-holds, holds-grey       grey: the phase is marking, and all that it names is 0 or live
 --     black-holds, holds-black     black: it may be, and all that it names is 0 or live, and while marking not white
 --     free-holds, holds-free       free: laid out as a free block
@@ -17,9 +17,9 @@ use Rattle.machine.specs.declared.Colour.{Colour}
 use Rattle.machine.specs.declared.Colour.the-variants.{White, Grey, Black, Free, Outside}
 use Rattle.machine.specs.Registers.{marking}
 use Rattle.machine.specs.Block.{byteOf, eightWords}
-use Rattle.machine.specs.Heap.{Heap, colourOf, referencesOf}
-use Rattle.machine.specs.Standing.{doomedWhite}
-use Rattle.machine.specs.Audit.{mayNameAll, zeroFrom, mayBeBlack, colourPasses, blockPasses}
+use Rattle.machine.specs.Heap.{Heap, colouring, colourOf, referencesOf}
+use Rattle.machine.specs.State.{ahead, stateFrom, stateIn, mayBeBlack}
+use Rattle.machine.specs.Audit.{mayNameAll, zeroFrom, statePasses, blockPasses}
 use Rattle.machine.specs.WellFormed.{Names, LaidOut}
 use Rattle.machine.proofs.Tests.{both-true, both, by-test, clash}
 use Rattle.theory_audit.proofs.Words.{part-word, zero-holds, holds-zero}
@@ -28,51 +28,51 @@ use Rattle.theory_audit.proofs.Naming.{MayName, names-hold, hold-names}
 module _ (h : Heap) (b : ℕ) where
   -- the test of the block b if its colour were c
   abbrev testAs : Colour → Bool
-  testAs c = colourPasses (h .regs) (h .colours) (eightWords (h .words) b) (byteOf (h .bytes) b) b c
+  testAs c = statePasses (h .regs) (colouring h) (eightWords (h .words) b) (byteOf (h .bytes) b) b (stateFrom (h .regs) b c)
 
   as-coloured : (c : Colour) → colourOf h b ≡ c → blockPasses h b ≡ true → testAs c ≡ true
-  unfolding blockPasses
+  unfolding blockPasses stateIn
   as-coloured c e t = rw e at t
 
   coloured-as : (c : Colour) → colourOf h b ≡ c → testAs c ≡ true → blockPasses h b ≡ true
-  unfolding blockPasses
+  unfolding blockPasses stateIn
   coloured-as c e t = rw e t
 
   abbrev pub NamesWell : Bool → Type 0
   NamesWell strict = (x : ℕ) → Names h b x → MayName h strict x
 
-  pub white-holds : colourOf h b ≡ White → blockPasses h b ≡ true → doomedWhite (h .regs) b ≡ false → NamesWell false
-  unfolding colourPasses
+  pub white-holds : colourOf h b ≡ White → blockPasses h b ≡ true → ahead (h .regs) b ≡ false → NamesWell false
+  unfolding statePasses stateFrom
   white-holds e t d = names-hold h false b (rw d at (as-coloured White e t))
 
-  pub holds-white : colourOf h b ≡ White → (doomedWhite (h .regs) b ≡ false → NamesWell false) → blockPasses h b ≡ true
-  unfolding colourPasses
+  pub holds-white : colourOf h b ≡ White → (ahead (h .regs) b ≡ false → NamesWell false) → blockPasses h b ≡ true
+  unfolding statePasses stateFrom
   holds-white e f =
-      coloured-as White e (by-test (doomedWhite (h .regs) b) (λ d. rw d refl) (λ d. rw d (hold-names h false b (f d))))
+      coloured-as White e (by-test (ahead (h .regs) b) (λ d. rw d refl) (λ d. rw d (hold-names h false b (f d))))
 
   pub grey-holds : colourOf h b ≡ Grey → blockPasses h b ≡ true → (h .regs .phase ≡ marking) × NamesWell false
-  unfolding colourPasses
+  unfolding statePasses stateFrom
   grey-holds e t =
-      let s = both-true (eqb (h .regs .phase) marking) (mayNameAll (h .regs) (h .colours) false (referencesOf h b)) (as-coloured Grey e t) in
+      let s = both-true (eqb (h .regs .phase) marking) (mayNameAll (h .regs) (colouring h) false (referencesOf h b)) (as-coloured Grey e t) in
       (eqb-true (h .regs .phase) marking (s .0), names-hold h false b (s .1))
 
   pub holds-grey : colourOf h b ≡ Grey → h .regs .phase ≡ marking → NamesWell false → blockPasses h b ≡ true
-  unfolding colourPasses
+  unfolding statePasses stateFrom
   holds-grey e m f = coloured-as Grey e (both (eq-eqb (h .regs .phase) marking m) (hold-names h false b f))
 
   pub black-holds : colourOf h b ≡ Black → blockPasses h b ≡ true → (mayBeBlack (h .regs) b ≡ true) × NamesWell (eqb (h .regs .phase) marking)
-  unfolding colourPasses
+  unfolding statePasses stateFrom
   black-holds e t =
       let strict = eqb (h .regs .phase) marking in
-      let s = both-true (mayBeBlack (h .regs) b) (mayNameAll (h .regs) (h .colours) strict (referencesOf h b)) (as-coloured Black e t) in
+      let s = both-true (mayBeBlack (h .regs) b) (mayNameAll (h .regs) (colouring h) strict (referencesOf h b)) (as-coloured Black e t) in
       (s .0, names-hold h strict b (s .1))
 
   pub holds-black : colourOf h b ≡ Black → mayBeBlack (h .regs) b ≡ true → NamesWell (eqb (h .regs .phase) marking) → blockPasses h b ≡ true
-  unfolding colourPasses
+  unfolding statePasses stateFrom
   holds-black e m f = coloured-as Black e (both m (hold-names h (eqb (h .regs .phase) marking) b f))
 
   pub free-holds : colourOf h b ≡ Free → blockPasses h b ≡ true → LaidOut h b
-  unfolding colourPasses
+  unfolding statePasses stateFrom
   free-holds e t =
       let s = both-true (eqb (byteOf (h .bytes) b) 0) (zeroFrom 7 1 (eightWords (h .words) b)) (as-coloured Free e t) in
       record {
@@ -81,12 +81,12 @@ module _ (h : Heap) (b : ℕ) where
       }
 
   pub holds-free : colourOf h b ≡ Free → LaidOut h b → blockPasses h b ≡ true
-  unfolding colourPasses
+  unfolding statePasses stateFrom
   holds-free e l =
       coloured-as Free e
       (both (eq-eqb (byteOf (h .bytes) b) 0 (l .byte))
       (holds-zero (eightWords (h .words) b) 7 1 (λ w k g. part-word (h .words) b w (omega arith) ∙ l .words w k (omega arith))))
 
   pub outside-fails : {A : Type 0} → colourOf h b ≡ Outside → blockPasses h b ≡ true → A
-  unfolding colourPasses
+  unfolding statePasses stateFrom
   outside-fails e t = clash (as-coloured Outside e t) refl

@@ -13,38 +13,30 @@ use native.Mathlib.Omega.{arith}
 use lib.Dec.{eqb}
 use lib.ListN.{length}
 use borrow.Author.Tests.{eqb-true, eq-eqb}
-use Rattle.machine.specs.declared.Colour.{Colour}
-use Rattle.machine.specs.declared.Colour.the-variants.{White, Grey, Black, Free, Outside}
-use Rattle.machine.specs.Block.{isBlock, wordOf}
-use Rattle.machine.specs.Colouring.{freeColour}
-use Rattle.machine.specs.Heap.{Heap, colourOf}
-use Rattle.machine.specs.Audit.{countFrom, walk, isFree, freesPass}
+use Rattle.machine.specs.declared.Colour.the-variants.{Free}
+use Rattle.machine.specs.Block.{wordOf}
+use Rattle.machine.specs.Colouring.{isFree}
+use Rattle.machine.specs.Heap.{Heap, colouring, colourOf}
+use Rattle.machine.specs.Audit.{countFrom, walk, freesPass}
 use Rattle.machine.specs.WellFormed.{Block, Coloured, Exactly}
-use Rattle.machine.proofs.Tests.{both-true, both, clash}
-use Rattle.machine.proofs.Blocks.{isBlock-block, block-isBlock}
-use Rattle.theory_audit.proofs.Exact.{walk-exact, exact-length, exact-walk}
-
-free-colour : (c : Colour) → freeColour c ≡ true → c ≡ Free
-free-colour White e = clash e refl
-free-colour Grey e = clash e refl
-free-colour Black e = clash e refl
-free-colour Free e = refl
-free-colour Outside e = clash e refl
+use Rattle.machine.proofs.Tests.{both-true, both}
+use Rattle.machine.proofs.Hues.{tests-free}
+use Rattle.machine.proofs.Steps.{never}
+use Rattle.machine.proofs.Linked.{linked}
+use Rattle.machine.proofs.Exact.{walk-exact, exact-length, exact-walk}
 
 module _ (h : Heap) where
   -- the test of a free block in this heap
   abbrev free : ℕ → Bool
-  free = isFree (h .regs .blocks) (h .colours)
+  free = isFree (colouring h)
 
   abbrev pub nextFree : ℕ → ℕ
   nextFree b = wordOf (h .words) b 0
 
-  pub free-tests : (b : ℕ) → (isFree (h .regs .blocks) (h .colours) b ≡ true) ↔ Coloured h Free b
-  unfolding isFree
+  pub free-tests : (b : ℕ) → (isFree (colouring h) b ≡ true) ↔ Coloured h Free b
   free-tests b = (
-    λ e. let t = both-true (isBlock (h .regs .blocks) b) (freeColour (colourOf h b)) e in
-        record { block = isBlock-block (h .regs .blocks) b (t .0); colour = free-colour (colourOf h b) (t .1) },
-    λ f. both (block-isBlock (h .regs .blocks) b (f .block)) (rw (f .colour) refl),
+    λ e. let c = tests-free (colourOf h b) e in record { block = linked .inside (colouring h) b (λ o. never (cc)); colour = c },
+    λ f. rw (f .colour) refl,
   )
 
   inside : (b : ℕ) → Coloured h Free b → Block (h .regs .blocks) b
@@ -54,7 +46,7 @@ module _ (h : Heap) where
   out f = let l = f .block in omega arith
 
   pub frees-hold :
-      freesPass (h .regs) (h .words) (h .colours) ≡ true
+      freesPass (h .regs) (h .words) (colouring h) ≡ true
       → (e : Exactly (Coloured h Free) nextFree 0 (h .regs .free)) × (length (e .blocks) ≡ h .regs .count)
   unfolding freesPass
   frees-hold e =
@@ -66,7 +58,7 @@ module _ (h : Heap) where
 
   pub hold-frees :
       (e : Exactly (Coloured h Free) nextFree 0 (h .regs .free)) → length (e .blocks) ≡ h .regs .count
-      → freesPass (h .regs) (h .words) (h .colours) ≡ true
+      → freesPass (h .regs) (h .words) (colouring h) ≡ true
   unfolding freesPass
   hold-frees e l =
       let m = h .regs .blocks in

@@ -14,91 +14,81 @@ use native.Mathlib.Omega.{arith}
 use borrow.Author.Tests.{eq-eqb, ne-eqb}
 use Rattle.machine.specs.declared.Regs.{Regs}
 use Rattle.machine.specs.declared.Colour.{Colour}
-use Rattle.machine.specs.declared.Colour.the-variants.{White, Grey, Black, Free, Outside}
-use Rattle.machine.specs.declared.Standing.{Standing}
-use Rattle.machine.specs.declared.Standing.the-variants.{Live as live, Gone, Damaged}
-use Rattle.machine.specs.Tests.{if_then_else_}
-use Rattle.machine.specs.Block.{isBlock}
-use Rattle.machine.specs.Heap.{Heap, colourOf, referencesOf}
-use Rattle.machine.specs.Standing.{standing, standingOf}
-use Rattle.machine.specs.Audit.{isLive, notWhite, mayBeNamed, mayName, mayNameAll}
+use Rattle.machine.specs.declared.Colour.the-variants as colours
+use Rattle.machine.specs.declared.State.{State}
+use Rattle.machine.specs.declared.State.the-variants.{LiveWhite, Doomed, Grey, Black, Free, Outside}
+use Rattle.machine.specs.Colouring.{Colouring, colourIn}
+use Rattle.machine.specs.Heap.{Heap, colouring, referencesOf}
+use Rattle.machine.specs.State.{ahead, stateFrom, stateIn, stateOf, isLive}
+use Rattle.machine.specs.Audit.{mayBeNamed, mayName, mayNameAll}
 use Rattle.machine.specs.WellFormed.{Coloured, Live, Names}
 use Rattle.machine.proofs.Tests.{both-true, both, by-eq, by-test, clash}
-use Rattle.machine.proofs.Blocks.{isBlock-block, block-isBlock}
+use Rattle.machine.proofs.States.{live-block}
 use Rattle.theory_audit.proofs.Words.{names-member, member-names}
-
-live-true : (s : Standing) → isLive s ≡ true → s ≡ live
-live-true live e = refl
-live-true Gone e = clash e refl
-live-true Damaged e = clash e refl
-
-true-live : (s : Standing) → s ≡ live → isLive s ≡ true
-true-live s e = rw e refl
-
-not-white : (c : Colour) → notWhite c ≡ true → c ≢ White
-not-white c e w = clash e (rw w refl)
-
-other-than-white : (c : Colour) → c ≢ White → notWhite c ≡ true
-other-than-white White n = absurd (n refl)
-other-than-white Grey n = refl
-other-than-white Black n = refl
-other-than-white Free n = refl
-other-than-white Outside n = refl
 
 pub record MayName (h : Heap) (strict : Bool) (x : ℕ) : Type 0 where
   pub alive : x ≢ 0 → Live h x
-  pub marked : strict ≡ true → Coloured h White x → ⊥
+  pub marked : strict ≡ true → Coloured h colours.White x → ⊥
 
-module _ (r : Regs) (strict : Bool) (x : ℕ) (c : Colour) where
-  named-live : mayBeNamed r strict x c ≡ true → standing r x c ≡ live
-  unfolding mayBeNamed
-  named-live e = live-true (standing r x c) (both-true (isLive (standing r x c)) (if strict then notWhite c else true) e .0)
+named-live : (strict : Bool) (s : State) → mayBeNamed strict s ≡ true → isLive s ≡ true
+named-live strict LiveWhite e = refl
+named-live strict Doomed e = e
+named-live strict Grey e = refl
+named-live strict Black e = refl
+named-live strict Free e = e
+named-live strict Outside e = e
 
-  named-marked : mayBeNamed r strict x c ≡ true → strict ≡ true → c ≢ White
-  unfolding mayBeNamed
-  named-marked e s = not-white c (rw s at (both-true (isLive (standing r x c)) (if strict then notWhite c else true) e .1))
+module _ (r : Regs) (k : Colouring) (strict : Bool) (x : ℕ) where
+  named-marked : mayBeNamed strict (stateIn r k x) ≡ true → strict ≡ true → colourIn k x ≢ colours.White
+  unfolding stateIn stateFrom
+  named-marked e s c = by-test (ahead r x) (λ t. clash e (rw (c, t) refl)) (λ t. clash e (rw (c, t, s) refl))
 
-  named : standing r x c ≡ live → (strict ≡ true → c ≢ White) → mayBeNamed r strict x c ≡ true
-  unfolding mayBeNamed
-  named l f = both (true-live (standing r x c) l) (by-test strict (λ s. rw s (other-than-white c (f s))) (λ s. rw s refl))
+  named : isLive (stateIn r k x) ≡ true → (strict ≡ true → colourIn k x ≢ colours.White) → mayBeNamed strict (stateIn r k x) ≡ true
+  unfolding stateIn stateFrom
+  named l f = go (colourIn k x) (λ s. f s) l
+    where
+      go : (c : Colour) → (strict ≡ true → c ≢ colours.White) → isLive (stateFrom r x c) ≡ true → mayBeNamed strict (stateFrom r x c) ≡ true
+      go colours.White f l =
+          by-test (ahead r x) (λ t. clash l (rw t refl))
+          (λ t. rw t (by-test strict (λ s. absurd (f s refl)) (λ s. rw s refl)))
+      go colours.Grey f l = refl
+      go colours.Black f l = refl
+      go colours.Free f l = l
+      go colours.Outside f l = l
 
 module _ (h : Heap) (strict : Bool) where
-  pub name-holds : (x : ℕ) → mayName (h .regs) (h .colours) strict x ≡ true → MayName h strict x
-  unfolding mayName standingOf
+  pub name-holds : (x : ℕ) → mayName (h .regs) (colouring h) strict x ≡ true → MayName h strict x
+  unfolding mayName
   name-holds x e =
-      let r = h .regs in
-      let c = colourOf h x in
-      let test : (x ≢ 0) → (isBlock (r .blocks) x ≡ true) × (mayBeNamed r strict x c ≡ true) =
-      λ n. both-true (isBlock (r .blocks) x) (mayBeNamed r strict x c) (simp (ne-eqb x 0 n) at e) in
+      let test : (x ≢ 0) → mayBeNamed strict (stateOf h x) ≡ true = λ n. simp (ne-eqb x 0 n) at e in
+      let live : (x ≢ 0) → isLive (stateOf h x) ≡ true = λ n. named-live strict (stateOf h x) (test n) in
       record {
-        alive = λ n. record { block = isBlock-block (r .blocks) x (test n .0); standing = named-live r strict x c (test n .1) };
-        marked = λ s w. named-marked r strict x c (test (λ z. let l = w .block in omega arith) .1) s (w .colour);
+        alive = λ n. record { block = live-block (h .regs) (colouring h) x (live n); live = live n };
+        marked = λ s w. named-marked (h .regs) (colouring h) strict x (test (λ z. let l = w .block in omega arith)) s (w .colour);
       }
 
-  pub holds-name : (x : ℕ) → MayName h strict x → mayName (h .regs) (h .colours) strict x ≡ true
-  unfolding mayName standingOf
+  pub holds-name : (x : ℕ) → MayName h strict x → mayName (h .regs) (colouring h) strict x ≡ true
+  unfolding mayName
   holds-name x f =
-      let r = h .regs in
-      let c = colourOf h x in
       by-eq x 0 (λ z. simp (eq-eqb x 0 z))
       (λ n. let l = f .alive n in
       simp (ne-eqb x 0 n)
-      (both (block-isBlock (r .blocks) x (l .block)) (named r strict x c (l .standing) (λ s w. f .marked s (record { block = l .block; colour = w })))))
+      (named (h .regs) (colouring h) strict x (l .live) (λ s w. f .marked s (record { block = l .block; colour = w }))))
 
-  pub all-name : (xs : List ℕ) → mayNameAll (h .regs) (h .colours) strict xs ≡ true → (x : ℕ) → List·Memᴰ x xs → MayName h strict x
+  pub all-name : (xs : List ℕ) → mayNameAll (h .regs) (colouring h) strict xs ≡ true → (x : ℕ) → List·Memᴰ x xs → MayName h strict x
   unfolding mayNameAll
   all-name [] e x i = absurd (List·Memᴰ·not-nil i)
   all-name (a ∷ xs) e x i =
-      let t = both-true (mayName (h .regs) (h .colours) strict a) (mayNameAll (h .regs) (h .colours) strict xs) e in
+      let t = both-true (mayName (h .regs) (colouring h) strict a) (mayNameAll (h .regs) (colouring h) strict xs) e in
       ⊎-elim (λ s. rw s (name-holds a (t .0))) (λ j. all-name xs (t .1) x j) (List·Memᴰ·cases-cons i)
 
-  pub name-all : (xs : List ℕ) → ((x : ℕ) → List·Memᴰ x xs → MayName h strict x) → mayNameAll (h .regs) (h .colours) strict xs ≡ true
+  pub name-all : (xs : List ℕ) → ((x : ℕ) → List·Memᴰ x xs → MayName h strict x) → mayNameAll (h .regs) (colouring h) strict xs ≡ true
   unfolding mayNameAll
   name-all [] f = refl
   name-all (a ∷ xs) f = both (holds-name a (f a (List·Memᴰ·head refl))) (name-all xs (λ x i. f x (List·Memᴰ·tail i)))
 
-  pub names-hold : (b : ℕ) → mayNameAll (h .regs) (h .colours) strict (referencesOf h b) ≡ true → (x : ℕ) → Names h b x → MayName h strict x
+  pub names-hold : (b : ℕ) → mayNameAll (h .regs) (colouring h) strict (referencesOf h b) ≡ true → (x : ℕ) → Names h b x → MayName h strict x
   names-hold b e x v = all-name (referencesOf h b) e x (names-member h b x v)
 
-  pub hold-names : (b : ℕ) → ((x : ℕ) → Names h b x → MayName h strict x) → mayNameAll (h .regs) (h .colours) strict (referencesOf h b) ≡ true
+  pub hold-names : (b : ℕ) → ((x : ℕ) → Names h b x → MayName h strict x) → mayNameAll (h .regs) (colouring h) strict (referencesOf h b) ≡ true
   hold-names b f = name-all (referencesOf h b) (λ x i. f x (member-names h b x i))

@@ -1,4 +1,2 @@
--- What the audit's answer means: well-formed cut in two, and the statement.
-pub mod Parts
-pub mod GreyList
+-- What the audit's answer means: the statement.
 pub mod Meaning

@@ -22,8 +22,9 @@ use Rattle.machine.specs.WellFormed.{Live, Names, WellFormed}
 use Rattle.machine.proofs.Tests.{by-test}
 use Rattle.machine.proofs.Steps.{never}
 use Rattle.machine.proofs.Blocks.{block-isBlock}
-use Rattle.machine.proofs.Refusals.{Readable, readable, passes, entered, word-fits, holder-as}
+use Rattle.machine.proofs.Refusals.{Readable, readable, passes, entered, word-fits}
 use Rattle.theory_promises.specs.Reachable.{Reachable, isNamed, SameWord}
+use Rattle.theory_promises.proofs.Serving.{live-holder}
 use Rattle.theory_promises.proofs.Losing.{reachable-live}
 use Rattle.part_rows.specs.declared.Followed.the-variants.{To}
 use Rattle.part_rows.specs.Lists.{Leads}
@@ -59,7 +60,7 @@ unfolding readRefusal
 live-reads h f b w l v =
     sym
     (passes (entered h (f .fitting) (f .registers)) refl
-    (passes (word-fits (h .regs .blocks) b w (block-isBlock _ b (v .block)) l) refl (holder-as h b 0 _ (sym (v .standing)) refl)))
+    (passes (word-fits (h .regs .blocks) b w (block-isBlock _ b (v .block)) l) refl (sym (live-holder h b v))))
 
 -- a link that is the same leads on from a reachable block
 pub leads-same : {h k : Heap} (w : ℕ) {b x : ℕ} → WellFormed k → Leads (blockRows w h) b x → Reachable k b → SameWord h k b w → Leads (blockRows w k) b x

@@ -18,17 +18,20 @@ use Rattle.machine.specs.Block.{byteOf, bit}
 use Rattle.machine.specs.Heap.{Heap}
 use Rattle.machine.specs.Chain as chain
 use Rattle.machine.specs.Entry.{entry}
-use Rattle.machine.specs.Standing.{holderRefusal}
+use Rattle.machine.specs.State.{holderRefusal}
 use Rattle.machine.specs.Read.{readAnswer}
 use Rattle.machine.specs.Field.{fieldPlace, nextOf, fieldBlock, linkRefusal, walkRefusal, fieldRefusal, readField}
 use Rattle.machine.specs.WellFormed.{Names, WellFormed}
 use Rattle.machine.proofs.Tests.{by-test, by-eq}
 use Rattle.machine.proofs.Blocks.{block-isBlock}
 use Rattle.machine.proofs.Entering.{first-zero, entry-ready}
-use Rattle.machine.proofs.Refusals.{passes, stops, entered, holder-as}
-use Rattle.machine.proofs.Fields.{field-fits, link-number, link-null, link-on}
+use Rattle.machine.proofs.Refusals.{passes, stops, entered}
+use Rattle.machine.proofs.Reading.{word-reference, word-number}
+use Rattle.machine.proofs.Fields.{field-fits, field-zero, link-number, link-null, link-on}
+use Rattle.theory_objects.specs.Lengths.{Long}
 use Rattle.theory_objects.proofs.Lengths.{passed}
 use Rattle.theory_promises.specs.Reachable.{Reachable, isNamed, SameWord}
+use Rattle.theory_promises.proofs.Serving.{live-holder}
 use Rattle.theory_promises.proofs.Losing.{reachable-live}
 use Rattle.part_rows.specs.declared.Reason.the-variants.{Refused}
 use Rattle.part_rows.specs.Rows.{ExportGiven}
@@ -80,8 +83,8 @@ module _ (h : Heap) where
 
 -- ---- on a well-formed heap
 module _ (k : Heap) (f : WellFormed k) where
-  live-holder : (b : ℕ) → Reachable k b → 0 ≡ holderRefusal k b
-  live-holder b r = holder-as k b 0 _ (sym (reachable-live k f b r .standing)) refl
+  reached-holder : (b : ℕ) → Reachable k b → 0 ≡ holderRefusal k b
+  reached-holder b r = sym (live-holder k b (reachable-live k f b r))
 
   next-on : (b : ℕ) → Reachable k b → bit (byteOf (k .bytes) b) chain.link ≡ true → nextOf k b ≢ 0 → 0 ≡ linkRefusal b k
   next-on b r t z =
@@ -103,7 +106,7 @@ record SameWalk (h k : Heap) (j b : ℕ) : Type 0 where
 module _ (h k : Heap) (f : WellFormed k) where
   walk-same : (j b : ℕ) → walkRefusal j b h ≡ 0 → Reachable k b → SameWords h k (rowBlocks j b h) → SameWalk h k j b
   unfolding walkRefusal fieldBlock
-  walk-same zero b e r s = record { walks = live-holder k f b r; same = refl; block = λ i o. let z : i ≡ 0 = omega arith in rw z refl }
+  walk-same zero b e r s = record { walks = reached-holder k f b r; same = refl; block = λ i o. let z : i ≡ 0 = omega arith in rw z refl }
   walk-same (suc j) b e r s =
       let (a, l, w) = passed h j b e in
       let q = s b chain.link (List·Memᴰ·head refl) (omega arith) in
@@ -113,7 +116,7 @@ module _ (h k : Heap) (f : WellFormed k) where
       let on = next-on k f b r t z in
       let rest = walk-same j (nextOf h b) w (subst (Reachable k) n (next-reaches k b (sym on) r)) (λ y v i. s y v (List·Memᴰ·tail i)) in
       record {
-        walks = passes (live-holder k f b r) refl (passes on refl (rw n (rest .walks)));
+        walks = passes (reached-holder k f b r) refl (passes on refl (rw n (rest .walks)));
         same = rw n (ap (λ (x : List ℕ). b ∷ x) (rest .same));
         block = blocks n (rest .block);
       }
@@ -224,9 +227,9 @@ record Ends (h : Heap) (j b e : ℕ) : Type 0 where
 module _ (h : Heap) (f : WellFormed h) where
   walk-ends : (j b : ℕ) → Reachable h b → (e : ℕ) → e ≡ walkRefusal j b h → e ≢ 0 → Ends h j b e
   unfolding walkRefusal fieldBlock
-  walk-ends zero b r e p z = absurd (z (p ∙ sym (live-holder h f b r)))
+  walk-ends zero b r e p z = absurd (z (p ∙ sym (reached-holder h f b r)))
   walk-ends (suc j) b r e p z =
-      let a = live-holder h f b r in
+      let a = reached-holder h f b r in
       by-test (bit (byteOf (h .bytes) b) chain.link)
       (λ t. by-eq (nextOf h b) 0
       (λ y. here a (link-null h b t y))

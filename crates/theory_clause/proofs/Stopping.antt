@@ -20,8 +20,8 @@ use Rattle.machine.specs.Read.{readRefusal, readAnswer, read}
 use Rattle.machine.specs.WellFormed.{Block, ends, goes}
 use Rattle.machine.specs.WellFormed as wellFormed
 use Rattle.machine.proofs.Steps.{never}
-use Rattle.theory_audit.proofs.Lists.{listed-distinct}
-use Rattle.theory_audit.proofs.Counting.{among, count-among, count-le}
+use Rattle.machine.proofs.Listing.{listed-distinct}
+use Rattle.machine.proofs.Counting.{among, count-among, count-le}
 use Rattle.theory_promises.proofs.Losing.{reachable-live}
 use Rattle.part_rows.specs.declared.Reason.the-variants.{Circle, Refused}
 use Rattle.part_rows.specs.Shape.{Shape}

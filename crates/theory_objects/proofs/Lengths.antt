@@ -4,24 +4,22 @@
 --     passed                   what the tests at one block of a walk that passes say
 -- A walk that passes does so up to each block before its end, and where the last link is no way on, each longer walk is refused there.
 -- Assumes nothing.
-use Prim.Native.Nat.{ℕ, zero, suc, _-_, _*_, _/_, _≤_, _<_}
+use Prim.Native.Nat.{ℕ, zero, suc, _-_, _/_, _≤_, _<_}
 use mathlib.Core.Path.{_≡_, refl, sym, _∙_}
-use mathlib.Core.Logic.{_≢_}
 use native.Mathlib.Omega.{arith}
-use borrow.Author.Tests.{eq-eqb, ne-eqb, le-leb, lt-leb, leb-true, leb-false}
+use borrow.Author.Tests.{eq-eqb, ne-eqb, leb-true, leb-false}
 use lib.Dec.{leb}
 use Rattle.machine.specs.Tests.{_▷_}
 use Rattle.machine.specs.Heap.{Heap}
-use Rattle.machine.specs.Standing.{holderRefusal}
-use Rattle.machine.specs.Entry.{entry}
+use Rattle.machine.specs.State.{holderRefusal}
 use Rattle.machine.specs.Read.{readAnswer}
-use Rattle.machine.specs.Field.{fieldPlace, nextOf, fieldBlock, linkRefusal, walkRefusal, fieldRefusal, readField}
+use Rattle.machine.specs.Field.{nextOf, fieldBlock, linkRefusal, walkRefusal, fieldRefusal, readField}
 use Rattle.machine.proofs.Tests.{by-eq, by-test}
 use Rattle.machine.proofs.Blocks.{block-isBlock}
 use Rattle.machine.proofs.Entering.{first-zero, ready-entry}
 use Rattle.machine.proofs.Refusals.{stops, passes}
 use Rattle.machine.proofs.Fields.{field-fits, field-high}
-use Rattle.theory_objects.specs.Lengths.{Long, FieldsWithin, FieldsPast}
+use Rattle.theory_objects.specs.Lengths.{FieldsWithin, FieldsPast}
 
 -- the answer's refusal number is fieldRefusal's
 refusal-read : (h : Heap) (b k : ℕ) → readField b k h .answer .refusal ≡ fieldRefusal b k h

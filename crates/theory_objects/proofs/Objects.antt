@@ -5,19 +5,18 @@
 --     fields-apart             FieldsApart
 -- A store that is done writes a word that is no link, so that each walk goes as before (`Writing`); one that is refused writes nothing.
 -- Assumes nothing.
-use Prim.Native.Nat.{ℕ, _/_, _%_, _*_, _<_}
-use mathlib.Core.Path.{_≡_, refl, sym, _∙_, ap, subst}
+use Prim.Native.Nat.{ℕ, _/_, _%_, _<_}
+use mathlib.Core.Path.{_≡_, refl, sym, _∙_, ap}
 use mathlib.Core.Logic.{_≢_}
 use native.Mathlib.Omega.{arith}
-use lib.ListN.{length, set}
 use lib.Seq.{getD-set-same}
 use borrow.Author.Tests.{eq-eqb, ne-eqb}
 use Rattle.machine.specs.Tests.{_▷_}
-use Rattle.machine.specs.Standing.{targetRefusal}
+use Rattle.machine.specs.State.{targetRefusal}
 use Rattle.machine.specs.Entry.{entry, wordRefusal, targetPlace}
-use Rattle.machine.specs.Block.{index, place, wordOf, byteOf, bit, withBit, withoutBit}
+use Rattle.machine.specs.Block.{index, place, byteOf, withBit, withoutBit}
 use Rattle.machine.specs.Heap.{Heap}
-use Rattle.machine.specs.Answers.{Given, refuse, done, unless}
+use Rattle.machine.specs.Answers.{done, unless}
 use Rattle.machine.specs.Read.{readRefusal, readAnswer, readRefused, read}
 use Rattle.machine.specs.Store.{barrier, putNumber, putReference}
 use Rattle.machine.specs.Field.{fieldPlace, walkRefusal, fieldBlock, fieldRefusal, readField, storeFieldNumber, fieldStoreRefusal, storeFieldReference}
@@ -28,7 +27,7 @@ use Rattle.machine.proofs.Reading.{place-within, index-within}
 use Rattle.machine.proofs.Bytes.{set-here, clear-here}
 use Rattle.machine.proofs.Entering.{first-zero}
 use Rattle.machine.proofs.Fields.{field-readable, field-storable}
-use Rattle.theory_objects.specs.Objects.{readsAs, NumberReadsBack, ReferenceReadsBack, Apart, FieldsStay, WordsStay, Straight, FieldsApart}
+use Rattle.theory_objects.specs.Objects.{readsAs, NumberReadsBack, ReferenceReadsBack, FieldsStay, WordsStay, FieldsApart}
 use Rattle.theory_objects.proofs.Writing.{Wrote, wrote-number, wrote-reference, wrote-after, barrier-unseen, barrier-words, barrier-bytes, tests-same, answer-same, entry-same, block-same, refusal-same}
 
 -- what a call that may be refused leaves: x where it is done, else the heap as it was

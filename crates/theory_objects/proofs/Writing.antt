@@ -8,24 +8,23 @@
 --     entry-same, block-same, refusal-same     tests 1 and 2 and each walk go as before, where the word is no link
 --     answer-same              another word reads as before
 -- Assumes nothing.
-use Prim.Native.Nat.{ℕ, zero, suc, _/_, _%_, _≤_, _<_}
+use Prim.Native.Nat.{ℕ, zero, suc, _/_, _≤_, _<_}
 use mathlib.Core.Path.{_≡_, refl, sym, _∙_, ap}
 use mathlib.Core.Logic.{_≢_}
-use mathlib.Core.Bool.{true, _&&_}
 use mathlib.Core.List.{List}
 use native.Mathlib.Omega.{arith}
 use lib.Dec.{eqb}
-use lib.ListN.{length, getD, set, length-set}
+use lib.ListN.{length, set, length-set}
 use lib.Seq.{getD-set-same, getD-set-other}
 use borrow.Author.Tests.{eqb-true, ne-eqb}
 use Rattle.machine.specs.declared.Colour.{Colour}
 use Rattle.machine.specs.declared.Colour.the-variants.{White, Grey, Black, Free, Outside}
-use Rattle.machine.specs.Tests.{if_then_else_, _▷_}
+use Rattle.machine.specs.Tests.{_▷_}
 use Rattle.machine.specs.Registers.{marking, sweeping}
-use Rattle.machine.specs.Block.{isBlock, index, place, wordOf, byteOf, bit, withBit, withoutBit}
-use Rattle.machine.specs.Colouring.{Colouring, white, colour, colourWord, toGrey, greyWhite}
+use Rattle.machine.specs.Block.{index, place, wordOf, byteOf, bit, withBit, withoutBit}
+use Rattle.machine.specs.Colouring.{Colouring, whiteColour, toGrey, greyWhite}
 use Rattle.machine.specs.Heap.{Heap, heap, colouring, withColouring, colourOf}
-use Rattle.machine.specs.Standing.{doomedWhite, standing, standingOf, refusalOf, holderRefusal}
+use Rattle.machine.specs.State.{ahead, stateFrom, stateIn, stateOf, refusalOf, holderRefusal}
 use Rattle.machine.specs.Read.{readAnswer}
 use Rattle.machine.specs.Store.{barrier, putNumber, putReference}
 use Rattle.machine.specs.Chain.{link}
@@ -33,14 +32,15 @@ use Rattle.machine.specs.Field.{fieldPlace, nextOf, fieldBlock, linkRefusal, wa
 use Rattle.machine.specs.Entry.{entry}
 use Rattle.machine.specs.WellFormed.{Block}
 use Rattle.machine.specs.Ready.{Ready}
-use Rattle.machine.proofs.Tests.{both-true, by-eq, if-ind}
-use Rattle.machine.proofs.Blocks.{isBlock-block}
-use Rattle.machine.proofs.Colours.{is-white, is-grey, head-block}
+use Rattle.machine.proofs.Tests.{by-eq, if-ind}
+use Rattle.machine.proofs.Hues.{tests-white}
+use Rattle.machine.proofs.Steps.{never}
+use Rattle.machine.proofs.Linked.{linked}
 use Rattle.machine.proofs.Bytes.{set-there, clear-there}
 use Rattle.machine.proofs.Refusals.{Readable}
 use Rattle.machine.proofs.Entering.{ready-entry}
-use Rattle.machine.proofs.Setting.{ready-words, ready-bytes, ready-colours, ready-grey}
-use Rattle.machine.proofs.Kept.{head-of-block}
+use Rattle.machine.proofs.Setting.{ready-words, ready-bytes}
+use Rattle.machine.proofs.Kept.{recoloured-kept, colouring-fits}
 
 -- both heaps pass tests 1 and 2, with as many blocks, and every block stands as it stood
 pub record Unseen (h k : Heap) : Type 0 where
@@ -53,63 +53,63 @@ pub none-seen : {h : Heap} → Ready h → Unseen h h
 none-seen d = record { blocks = refl; before = d; ready = d; holder = λ b. refl }
 
 -- ---- the barrier
--- a legal grey head, as a colour word, is grey
-head-grey : (h : Heap) → Ready h → Grey ≡ colour (h .regs .blocks) (h .regs .grey)
-head-grey h d =
-    let m = d .most in
-    by-eq (h .regs .grey) 1
-    (λ o. is-grey _ _ (λ z. absurd (omega arith)) (λ z. absurd (omega arith)) (λ z. absurd (omega arith)) (omega arith))
-    (λ o.
-    let b = head-block _ _ _ (d .grey) o .1 in
-    is-grey _ _ (λ z. absurd (omega arith)) (λ z. absurd (omega arith)) (λ z. absurd (omega arith)) (omega arith))
-
 -- while marking, a block that is white or grey may be read and written
-stands-white : (h : Heap) (b : ℕ) → h .regs .phase ≡ marking → White ≡ colourOf h b → 0 ≡ holderRefusal h b
-unfolding holderRefusal standingOf standing doomedWhite
-stands-white h b p e = simp (← e, ne-eqb (h .regs .phase) sweeping (λ z. absurd (omega arith)))
+stands-white : (h : Heap) (b : ℕ) → h .regs .phase ≡ marking → colourOf h b ≡ White → holderRefusal h b ≡ 0
+unfolding holderRefusal stateIn stateFrom ahead
+stands-white h b p e = simp (e, ne-eqb (h .regs .phase) sweeping (λ z. absurd (omega arith)))
 
-stands-grey : (h : Heap) (b : ℕ) → Grey ≡ colourOf h b → 0 ≡ holderRefusal h b
-unfolding holderRefusal standingOf standing
-stands-grey h b e = simp (← e)
+stands-grey : (h : Heap) (b : ℕ) → colourOf h b ≡ Grey → holderRefusal h b ≡ 0
+unfolding holderRefusal stateIn stateFrom
+stands-grey h b e = simp e
 
--- the grey head is no part of a block's standing
-stands-same : (h k : Heap) (b : ℕ) → k .regs .phase ≡ h .regs .phase → k .regs .position ≡ h .regs .position → colourOf k b ≡ colourOf h b → holderRefusal k b ≡ holderRefusal h b
-unfolding holderRefusal standingOf standing doomedWhite
-stands-same h k b p q e = ap (refusalOf 5) (ap (standing (k .regs) b) e ∙ go (colourOf h b))
+-- a block's state goes by its colour, the phase and the position
+state-same : (h k : Heap) (b : ℕ) → k .regs .phase ≡ h .regs .phase → k .regs .position ≡ h .regs .position → colourOf k b ≡ colourOf h b → stateOf k b ≡ stateOf h b
+unfolding stateIn stateFrom ahead
+state-same h k b p q e = ap (stateFrom (k .regs) b) e ∙ go (colourOf h b)
   where
-    go : (c : Colour) → standing (k .regs) b c ≡ standing (h .regs) b c
+    go : (c : Colour) → stateFrom (k .regs) b c ≡ stateFrom (h .regs) b c
     go White = rw (p, q) refl
     go Grey = refl
     go Black = refl
     go Free = refl
     go Outside = refl
 
+stands-same : (h k : Heap) (b : ℕ) → stateOf k b ≡ stateOf h b → holderRefusal k b ≡ holderRefusal h b
+unfolding holderRefusal
+stands-same h k b e = ap (refusalOf 5) e
+
+-- a white block greyed while marking: it may be read and written as before
+module _ (t : ℕ) (h : Heap) (d : Ready h) (p : h .regs .phase ≡ marking) (c : colourOf h t ≡ White) where
+  abbrev greyer : Heap
+  greyer = withColouring (toGrey t (colouring h)) h
+
+  block : Block (h .regs .blocks) t
+  block = linked .inside (colouring h) t (λ o. never (cc))
+
+  holder-greyed : (b : ℕ) → holderRefusal greyer b ≡ holderRefusal h b
+  holder-greyed b =
+      by-eq b t
+      (λ i. rw i (stands-grey greyer t (linked .greyHere (colouring h) t (colouring-fits h d) block) ∙ sym (stands-white h t p c)))
+      (λ n. stands-same h greyer b (state-same h greyer b refl refl (linked .greyThere (colouring h) t b block n)))
+
+  greyed-unseen : Unseen h greyer
+  greyed-unseen =
+      record {
+        blocks = refl;
+        before = d;
+        ready = recoloured-kept h d (toGrey t (colouring h)) p refl (linked .greyKeeps (colouring h) t (colouring-fits h d) block);
+        holder = holder-greyed;
+      }
+
 pub barrier-unseen : (t : ℕ) (h : Heap) → Ready h → Unseen h (barrier t h)
 unfolding barrier greyWhite
 barrier-unseen t h d =
     if-ind (Unseen h) (eqb (h .regs .phase) marking)
-    (λ e. greyed (eqb-true _ _ e))
+    (λ e.
+    if-ind (λ (k : Colouring). Unseen h (withColouring k h)) (whiteColour (colourOf h t))
+    (λ w. greyed-unseen t h d (eqb-true _ _ e) (tests-white (colourOf h t) w))
+    (λ w. none-seen d))
     (λ e. none-seen d)
-  where
-    greyed : h .regs .phase ≡ marking → Unseen h (withColouring (greyWhite (h .regs .blocks) t (colouring h)) h)
-    greyed p =
-        if-ind (λ (c : Colouring). Unseen h (withColouring c h)) (isBlock (h .regs .blocks) t && eqb (colourWord (h .colours) t) white)
-        (λ e.
-        let a = both-true (isBlock (h .regs .blocks) t) (eqb (colourWord (h .colours) t) white) e in
-        let l = isBlock-block _ _ (a .0) in
-        let n = d .colours in
-        record {
-          blocks = refl;
-          before = d;
-          ready = ready-colours (ready-grey d t (rw p (head-of-block _ _ l))) _ (simp length-set);
-          holder = λ b.
-              by-eq (index b) (index t)
-              (λ i.
-              sym (stands-grey (withColouring (toGrey t (colouring h)) h) b (rw (i, getD-set-same (h .colours) (index t) (h .regs .grey) 0 (omega arith)) (head-grey h d)))
-              ∙ stands-white h b p (is-white _ _ (rw i (eqb-true _ _ (a .1)))))
-              (λ i. stands-same h (withColouring (toGrey t (colouring h)) h) b refl refl (ap (colour (h .regs .blocks)) (getD-set-other (h .colours) (index t) (index b) (h .regs .grey) 0 i)));
-        })
-        (λ e. none-seen d)
 
 pub barrier-words : (t : ℕ) (h : Heap) → barrier t h .words ≡ h .words
 unfolding barrier
@@ -140,7 +140,7 @@ module _ (h : Heap) (a w v : ℕ) (d : Readable h a w) where
   within = omega arith
 
   written : (bs : List ℕ) → length bs ≡ length (h .bytes) → Unseen h (heap (h .regs) (set (h .words) (place a w) v) (h .colours) bs)
-  unfolding holderRefusal standingOf
+  unfolding holderRefusal
   written bs e =
       record {
         blocks = refl;

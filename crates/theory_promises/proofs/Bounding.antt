@@ -3,18 +3,16 @@
 --     cycle-short              the promise
 -- Assumes nothing.
 use Prim.Native.Nat.{ℕ, _+_, _≤_}
-use mathlib.Core.Path.{_≡_, refl, sym, _∙_, ap, subst}
-use mathlib.Core.Bool.{Bool, _&&_}
+use mathlib.Core.Path.{_≡_, refl, subst}
 use mathlib.Core.List.{List, _∷_, _++_}
 use native.Mathlib.Omega.{arith}
 use Rattle.machine.specs.declared.Colour.{Colour}
 use Rattle.machine.specs.declared.Colour.the-variants.{White, Grey, Black, Free, Outside}
 use Rattle.machine.specs.Registers.{idle}
 use Rattle.machine.specs.Colouring.{allocatedColour, isAllocated}
-use Rattle.machine.specs.Heap.{Heap, colourOf}
+use Rattle.machine.specs.Heap.{Heap, colouring, colourOf}
 use Rattle.machine.specs.WellFormed.{WellFormed}
 use Rattle.machine.specs.Session.{Call}
-use Rattle.machine.proofs.Blocks.{block-isBlock}
 use Rattle.theory_reach.specs.Sums.{total}
 use Rattle.theory_moves.specs.Heaps.{span}
 use Rattle.theory_moves.specs.Moves.{Begin}
@@ -38,10 +36,10 @@ colour-stands Free = refl
 colour-stands Outside = refl
 
 pub allocated-count : (h : Heap) → allocated (h .regs .blocks) (view h) ≡ allocatedBlocks h
-unfolding total isAllocated
+unfolding total
 allocated-count h =
-    count-sum (isAllocated (h .regs .blocks) (h .colours)) (λ b. stands (tintOf (colourOf h b))) (h .regs .blocks) 2
-    (λ c l. colour-stands (colourOf h c) ∙ ap one (sym (ap (λ (t : Bool). t && allocatedColour (colourOf h c)) (block-isBlock (h .regs .blocks) c (record { low = omega arith; high = omega arith })))))
+    count-sum (isAllocated (colouring h)) (λ b. stands (tintOf (colourOf h b))) (h .regs .blocks) 2
+    (λ c l. colour-stands (colourOf h c))
 
 counted : (h : Heap) → WellFormed h → allocatedBlocks h + h .regs .count ≡ h .regs .blocks
 counted h f = omega (arith, allocated-count h, free-count h (wf-shape h f), bounds.cycle-short .counted (h .regs .blocks) (view h))

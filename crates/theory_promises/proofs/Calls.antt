@@ -16,7 +16,7 @@ use Rattle.machine.specs.declared.ReadAnswer.{ReadAnswer}
 use Rattle.machine.specs.Tests.{if_then_else_, _▷_}
 use Rattle.machine.specs.Heap.{Heap}
 use Rattle.machine.specs.Entry.{numbersFit, lengthsFit, fits, entry, holderPlace}
-use Rattle.machine.specs.Answers.{refuse, done}
+use Rattle.machine.specs.Answers.{refuse, done, unless}
 use Rattle.machine.specs.Units.{stopped}
 use Rattle.machine.specs.Format.{formatted, format}
 use Rattle.machine.specs.Read.{readRefusal, readAnswer, read}
@@ -27,15 +27,16 @@ use Rattle.machine.specs.Chain.{chain, chainLength, allocateChain}
 use Rattle.machine.specs.Field.{fieldBlock, fieldRefusal, readField, storeFieldNumber, fieldStoreRefusal, storeFieldReference}
 use Rattle.machine.specs.Work.{countRefusal, worked, work}
 use Rattle.machine.specs.Audit.{audit}
+use Rattle.machine.specs.Tell.{tellState}
 use Rattle.machine.specs.WellFormed.{WellFormed}
 use Rattle.machine.specs.Session.{Call, plainly, does}
 use Rattle.machine.specs.Session.Call.{Format, Read, Look, StoreNumber, StoreReference, SetRoot, Allocate, Work, Audit}
-use Rattle.machine.specs.Session.Call.{AllocateChain, ReadField, StoreFieldNumber, StoreFieldReference}
+use Rattle.machine.specs.Session.Call.{AllocateChain, ReadField, StoreFieldNumber, StoreFieldReference, State}
 use Rattle.machine.proofs.Tests.{both-true, if-ind}
 use Rattle.machine.proofs.Entering.{first-zero}
 use Rattle.machine.proofs.Allocating.{holder-zero}
 use Rattle.theory_promises.specs.Deeds.{aNumber, aReference, aRoot, aTake, acted, aUnit, anAct, deed, after, AllAllowed}
-use Rattle.theory_promises.specs.Plans.{acting, anewUnless, actsUnless, formActs, severalActs, plan, deeds, Resets}
+use Rattle.theory_promises.specs.Plans.{acting, nothing, anewUnless, actsUnless, formActs, severalActs, plan, deeds, Resets}
 use Rattle.theory_promises.specs.Known.{Keeps, Known}
 use Rattle.theory_promises.proofs.Viewing.{wf-shape}
 use Rattle.theory_promises.proofs.TakingMoves.{take-sound}
@@ -147,6 +148,10 @@ module _ (h : Heap) (f : WellFormed h) where
   read-field-answer b k =
       if-ind (λ (x : ReadAnswer). Fine (x .refusal)) (eqb (fieldRefusal b k h) 0) (λ t. small 0 (omega arith)) (λ t. field-fine h f b k)
 
+  state-known : (b : ℕ) → Known (State b) h
+  unfolding plan does tellState unless
+  state-known b = if-ind (Keeps (nothing 0) h) (eqb (entry h) 0) (λ t. quiet 0 h _ refl (small 0 (omega arith))) (λ t. quiet 0 h _ refl (entry-fine h (wf-shape h f)))
+
 pub known : (c : Call) (h : Heap) → WellFormed h → Known c h
 unfolding plan does read audit storeNumber storeReference setRoot readField storeFieldNumber storeFieldReference acted
 known (Format m u) h f = format-known m u h
@@ -164,6 +169,7 @@ known (StoreFieldReference b k t) h f =
     acts-once (fieldStoreRefusal b k t h) (aReference (fieldBlock (k / 7) b h) (k % 7) t) h refl (field-store-allowed h f b k t) (field-store-fine h f b k t)
 known (Work n) h f = work-known h f n
 known Audit h f = quiet 0 h (audit h) refl (small 0 (omega arith))
+known (State b) h f = state-known h f b
 
 module _ (h : Heap) (f : WellFormed h) (c : Call) where
   pub calls-are-deeds : (Resets c h → ⊥) → does c h .heap ≡ after (deeds c h) h

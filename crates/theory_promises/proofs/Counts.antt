@@ -11,12 +11,13 @@ use native.Mathlib.Numerals.{add-one}
 use native.Mathlib.Omega.{arith}
 use Rattle.machine.specs.declared.Colour.the-variants.{Free}
 use Rattle.machine.specs.Tests.{if_then_else_}
-use Rattle.machine.specs.Heap.{Heap, colourOf}
-use Rattle.machine.specs.Audit.{countFrom, isFree}
+use Rattle.machine.specs.Colouring.{isFree}
+use Rattle.machine.specs.Heap.{Heap, colouring, colourOf}
+use Rattle.machine.specs.Audit.{countFrom}
 use Rattle.machine.specs.WellFormed.{Block, Coloured}
 use Rattle.machine.proofs.Tests.{by-test, clash}
 use Rattle.theory_audit.proofs.Frees.{nextFree, free-tests}
-use Rattle.theory_audit.proofs.Exact.{exact-length}
+use Rattle.machine.proofs.Exact.{exact-length}
 use Rattle.theory_reach.specs.Sums.{sum, Within, total}
 use Rattle.theory_reach.proofs.Sums.{total-down, total-ones}
 use Rattle.theory_moves.specs.Tints.{Tint}
@@ -56,17 +57,17 @@ module _ (h : Heap) (p : Shape h) where
   abbrev m : ℕ
   m = h .regs .blocks
 
-  weight : (c : ℕ) → Block m c → lies (tintOf (colourOf h c)) ≡ one (isFree m (h .colours) c)
+  weight : (c : ℕ) → Block m c → lies (tintOf (colourOf h c)) ≡ one (isFree (colouring h) c)
   weight c l =
-      by-test (isFree m (h .colours) c)
+      by-test (isFree (colouring h) c)
       (λ t. free-weight _ (free-of {h = h} (free-tests h c .0 t)) ∙ sym (ap one t))
       (λ t. other-weight _ (λ z. clash (free-tests h c .1 (of-free {h = h} l (p .colours c l) z)) t) ∙ sym (ap one t))
 
   pub free-count : unused m (view h) ≡ h .regs .count
   unfolding total
   free-count =
-      count-sum (isFree m (h .colours)) (λ b. lies (tintOf (colourOf h b))) m 2 (λ c l. weight c (record { low = omega arith; high = omega arith }))
-      ∙ sym (exact-length (Coloured h Free) (isFree m (h .colours)) (free-tests h) (nextFree h) 0 m (λ b f. f .block) (λ f. let l = f .block in omega arith) (h .regs .free) (p .frees)) ∙ p .counted
+      count-sum (isFree (colouring h)) (λ b. lies (tintOf (colourOf h b))) m 2 (λ c l. weight c (record { low = omega arith; high = omega arith }))
+      ∙ sym (exact-length (Coloured h Free) (isFree (colouring h)) (free-tests h) (nextFree h) 0 m (λ b f. f .block) (λ f. let l = f .block in omega arith) (h .regs .free) (p .frees)) ∙ p .counted
 
   pub not-all-free : (b : ℕ) → Block m b → tintOf (colourOf h b) ≢ tints.Free → unused m (view h) < m
   not-all-free b l n =

@@ -14,7 +14,7 @@ use Rattle.machine.specs.Tests.{if_then_else_, _▷_}
 use Rattle.machine.specs.Block.{isBlock, byteOf, bit}
 use Rattle.machine.specs.Heap.{Heap}
 use Rattle.machine.specs.Entry.{entry, wordRefusal, targetPlace}
-use Rattle.machine.specs.Standing.{holderRefusal, targetRefusal}
+use Rattle.machine.specs.State.{holderRefusal, targetRefusal}
 use Rattle.machine.specs.Read.{readRefusal}
 use Rattle.machine.specs.Store.{storeRefusal}
 use Rattle.machine.specs.Chain.{link}
@@ -45,7 +45,7 @@ module _ (h : Heap) where
   m = h .regs .blocks
 
   holder-lives : (b : ℕ) → Block m b → holderRefusal h b ≡ 0 → Live h b
-  holder-lives b l e = record { block = l; standing = holder-live h b e }
+  holder-lives b l e = record { block = l; live = holder-live h b e }
 
   link-block : (b : ℕ) → linkRefusal b h ≡ 0 → Block m (nextOf h b)
   unfolding linkRefusal

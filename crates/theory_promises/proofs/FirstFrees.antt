@@ -19,15 +19,15 @@ use Rattle.machine.specs.Tests.{if_then_else_, _▷_}
 use Rattle.machine.specs.Block.{wordOf}
 use Rattle.machine.specs.Colouring.{freeColour}
 use Rattle.machine.specs.Heap.{Heap}
-use Rattle.machine.specs.Standing.{holderRefusal}
+use Rattle.machine.specs.State.{holderRefusal}
 use Rattle.machine.specs.Several.{linkOf, frees, firstFrees, listWalks, amongst, distinct, headRefusal, severalRefusal, takeSeveralRefusal}
 use Rattle.machine.specs.WellFormed.{Block, Coloured, Listed, ends, goes}
 use Rattle.machine.proofs.Tests.{both, if-ind, by-eq}
 use Rattle.machine.proofs.Entering.{first-zero, block-or-none}
 use Rattle.theory_reach.proofs.Splits.{by-le}
-use Rattle.theory_audit.proofs.Lists.{listed-distinct}
+use Rattle.machine.proofs.Listing.{listed-distinct}
 use Rattle.theory_promises.specs.View.{Shape}
-use Rattle.theory_promises.proofs.Chains.{not-again}
+use Rattle.machine.proofs.Chains.{not-again}
 use Rattle.theory_promises.proofs.TakingMoves.{first-in, head-count, count-head}
 use Rattle.theory_promises.proofs.Refusing.{Fine, small, holder-fine, fine-then}
 

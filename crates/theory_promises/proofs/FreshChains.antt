@@ -45,7 +45,7 @@ use Rattle.theory_promises.specs.Deeds.{aTake, acted, Allows, aUnit, anA
 use Rattle.theory_promises.specs.Objects.{reads, FreshChain, FreshChains}
 use Rattle.theory_promises.proofs.Viewing.{wf-shape, live-view}
 use Rattle.theory_promises.proofs.Reaching.{same-word}
-use Rattle.theory_promises.proofs.Painting.{byte-set, byte-kept, word-set, word-kept}
+use Rattle.theory_promises.proofs.Buffers.{byte-set, byte-kept, word-set, word-kept}
 use Rattle.theory_promises.proofs.StoringMoves.{live-taken}
 use Rattle.theory_promises.proofs.TakingMoves.{take-root, take-held, first-free, head-count}
 use Rattle.theory_promises.proofs.DeedMoves.{act-run, deed-formed}

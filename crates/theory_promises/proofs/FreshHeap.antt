@@ -18,15 +18,14 @@ use Rattle.machine.specs.declared.Colour.the-variants.{Free}
 use Rattle.machine.specs.Tests.{if_then_else_}
 use Rattle.machine.specs.Registers.{idle}
 use Rattle.machine.specs.Block.{wordOf, byteOf, bit, freeWords}
-use Rattle.machine.specs.Colouring.{freed, colour, colourWord}
+use Rattle.machine.specs.Colouring.{coloured, colourIn, freshColours}
 use Rattle.machine.specs.Heap.{Heap}
 use Rattle.machine.specs.Format.{freeList, formatted}
 use Rattle.machine.specs.WellFormed.{Block, Listed, ends, goes, WellFormed}
 use Rattle.machine.specs.Ready.{Ready}
 use Rattle.machine.proofs.Tests.{by-eq, by-test}
 use Rattle.machine.proofs.Bytes.{free-rest}
-use Rattle.machine.proofs.Colours.{is-free}
-use Rattle.machine.proofs.Kept.{head-one}
+use Rattle.machine.proofs.Linked.{linked}
 use Rattle.machine.proofs.Steps.{never}
 use Rattle.theory_moves.specs.Heaps.{Sound}
 use Rattle.theory_moves.proofs.Heaps.{fresh-sound}
@@ -97,8 +96,8 @@ module _ (m u : ℕ) (some : 1 ≤ m) (most : m ≤ 16384) (pace : u ≤ 65535) 
       let q : 2 + (b - 2) + 1 ≡ b + 1 = omega arith in
       list-word m 2 (b - 2) v (omega arith) (omega arith) ∙ same-link v e q
 
-  tint-free : (b : ℕ) → Block m b → colour m (colourWord (replicate m freed) b) ≡ Free
-  tint-free b l = ap (colour m) (getD-replicate m (b - 2) freed 0 (omega arith)) ∙ sym (is-free m freed refl)
+  tint-free : (b : ℕ) → Block m b → colourIn (coloured m 1 (freshColours m)) b ≡ Free
+  tint-free b l = linked .freshFree m b l
 
   byte-none : (b : ℕ) → Block m b → byteOf (replicate m 0) b ≡ 0
   byte-none b l = getD-replicate m (b - 2) 0 0 (omega arith)
@@ -111,10 +110,10 @@ module _ (m u : ℕ) (some : 1 ≤ m) (most : m ≤ 16384) (pace : u ≤ 65535) 
         most = most;
         pace = pace;
         words = list-length m 2;
-        colours = length-replicate m freed;
+        colours = linked .freshFits m most .cells;
         bytes = length-replicate m 0;
         phase = omega arith;
-        grey = head-one m idle;
+        grey = linked .one m idle;
         free = λ n. record { low = omega arith; high = omega arith };
         root = λ n. absurd (n refl);
         count = omega arith;
@@ -146,7 +145,7 @@ module _ (m u : ℕ) (some : 1 ≤ m) (most : m ≤ 16384) (pace : u ≤ 65535) 
       record {
         ready = ready;
         colours = λ b l e. never (cc (tint-free b l));
-        greys = record { blocks = []; listed = ends refl; members = λ b. (λ i. absurd (List·Memᴰ·not-nil i), λ g. let q = tint-free b (g .block) in let z = g .colour in never (cc)) };
+        greys = linked .freshGreys m;
         frees = record {
           blocks = upTo m 2;
           listed = all-listed;

@@ -1,7 +1,6 @@
 -- The machine's calls are made of moves, and the promises hold of it.
 pub mod Viewing
-pub mod Chains
-pub mod Painting
+pub mod Buffers
 pub mod Greys
 pub mod Recolouring
 pub mod MarkingMoves
@@ -24,6 +23,7 @@ pub mod Calls
 pub mod Courses
 pub mod Keeping
 pub mod Losing
+pub mod Telling
 pub mod Chaining
 pub mod Collecting
 pub mod Bounding

@@ -9,143 +9,147 @@ use mathlib.Core.Logic.{_≢_, _↔_}
 use mathlib.Core.List.{List, List·Memᴰ}
 use native.Mathlib.Omega.{arith}
 use lib.Dec.{eqb}
-use lib.ListN.{length-set}
-use borrow.Author.Tests.{eq-eqb, ne-eqb}
-use Rattle.machine.specs.declared.Colour.the-variants.{Grey, Black, Free, Outside}
+use borrow.Author.Tests.{ne-eqb}
+use Rattle.machine.specs.declared.Colour.the-variants.{White, Grey, Black, Outside}
 use Rattle.machine.specs.Tests.{if_then_else_}
 use Rattle.machine.specs.Registers.{idle, marking}
-use Rattle.machine.specs.Colouring.{Colouring, white, colour, colourWord, toGrey, toBlack, greyWhite, greyAll}
+use Rattle.machine.specs.Colouring.{Colouring, coloured, colourIn, toGrey, toBlack, firstGrey, greyWhite, greyAll}
 use Rattle.machine.specs.Heap.{Heap, colouring, colourOf, referencesOf}
 use Rattle.machine.specs.WellFormed.{Block}
-use Rattle.machine.specs.OneUnit.{metBlock, metWord, begun, marked, turned}
+use Rattle.machine.specs.Layout.{Fitting}
+use Rattle.machine.specs.OneUnit.{begun, marked, turned}
 use Rattle.machine.proofs.Tests.{by-eq}
-use Rattle.machine.proofs.Blocks.{below-isBlock, block-isBlock}
-use Rattle.machine.proofs.Colours.{not-a-block, was-white, head-block}
 use Rattle.machine.proofs.Steps.{never}
-use Rattle.machine.proofs.Kept.{Kept, head-one, head-elsewhere, next-legal, begun-kept, marked-kept, turned-kept}
+use Rattle.machine.proofs.Kept.{recolouring, colouring-fits, begun-kept, marked-kept, turned-kept}
+use Rattle.machine.proofs.Linked.{linked}
 use Rattle.theory_audit.proofs.Words.{names-member, member-names}
 use Rattle.theory_moves.specs.Tints.{Turned}
 use Rattle.theory_moves.specs.Moves.{Begin, Mark, Turn}
 use Rattle.theory_moves.proofs.Tints.{stays-free, was-free, stays-black}
 use Rattle.theory_moves.specs.Tints as tints
 use Rattle.theory_promises.specs.View.{tintOf, view, Shape}
-use Rattle.theory_promises.proofs.Viewing.{here, there, names-ref, ref-names, tinted}
-use Rattle.theory_promises.proofs.Greys.{TintIn, Greying, turned-as, greying-white, greying-all, black-here, black-there, black-list}
-use Rattle.theory_promises.proofs.Recolouring.{of-greys, none-listed, recoloured}
+use Rattle.theory_promises.proofs.Viewing.{there, names-ref, ref-names, tinted}
+use Rattle.theory_promises.proofs.Greys.{TintIn, Greying, turned-as, greying-white, greying-one, greying-none, greying-all}
+use Rattle.theory_promises.proofs.Recolouring.{recoloured}
 
 module _ (h : Heap) (p : Shape h) where
   abbrev m : ℕ
   m = h .regs .blocks
 
-  -- away from marking the grey head is 1, which is legal while marking too
-  resting : h .regs .phase ≢ marking → Kept m m (colouring h)
-  resting n = record { legal = rw (head-elsewhere _ _ _ n (p .ready .grey)) (head-one m marking); same = p .ready .colours }
+  abbrev hues : Colouring
+  hues = colouring h
+
+  fitting : Fitting hues
+  fitting = colouring-fits h (p .ready)
 
   -- a root that is 0 or white becomes grey, if it is a block
-  root-grey : h .regs .phase ≡ idle → metWord h ≡ white → (if eqb (h .regs .root) 0 then colouring h else toGrey (h .regs .root) (colouring h)) ≡ greyWhite m (h .regs .root) (colouring h)
-  unfolding metWord metBlock
-  root-grey i w =
+  abbrev rooted : Colouring
+  rooted = if eqb (h .regs .root) 0 then hues else toGrey (h .regs .root) hues
+
+  root-grey : (h .regs .root ≢ 0 → colourOf h (h .regs .root) ≡ White) → rooted ≡ greyWhite (h .regs .root) hues
+  root-grey w =
       by-eq (h .regs .root) 0
-      (λ z. simp (eq-eqb (h .regs .root) 0 z) (not-a-block m (h .regs .root) (colouring h) (below-isBlock m (h .regs .root) (omega arith))))
-      (λ z.
-      let b = block-isBlock m (h .regs .root) (p .ready .root z) in
-      simp (ne-eqb (h .regs .root) 0 z) (was-white m (h .regs .root) (colouring h) b (simp (eq-eqb (h .regs .phase) idle i, b) at w)))
+      (λ z. rw z (sym (greying-none hues)))
+      (λ z. simp (ne-eqb (h .regs .root) 0 z) (sym (greying-one (h .regs .root) hues (w z))))
 
-  module _ (i : h .regs .phase ≡ idle) (w : metWord h ≡ white) where
-    off : h .regs .phase ≢ marking
-    off z = absurd (omega arith)
+  module _ (i : h .regs .phase ≡ idle) (w : h .regs .root ≢ 0 → colourOf h (h .regs .root) ≡ White) where
+    start : Greying (λ c. c ≡ h .regs .root) hues rooted
+    start = subst (Greying (λ c. c ≡ h .regs .root) hues) (sym (root-grey w)) (greying-white (h .regs .root) hues fitting)
 
-    start : Greying m (λ c. c ≡ h .regs .root) (colouring h) (if eqb (h .regs .root) 0 then colouring h else toGrey (h .regs .root) (colouring h))
-    start = subst (Greying m (λ c. c ≡ h .regs .root) (colouring h)) (sym (root-grey i w)) (greying-white m (p .ready .most) (h .regs .root) (colouring h) (resting off))
+    begun-as : coloured m (rooted .head) (rooted .cells) ≡ rooted
+    begun-as = recolouring h rooted (start .blocks)
 
     pub begin-move : Begin m (view h) (view (begun h))
     unfolding begun
     begin-move =
-        record { before = i; after = refl; root = refl; tints = λ b l. start .tints b (here l); cells = λ b l. record { words = λ w. refl; bits = λ w. refl } }
+        record {
+          before = i;
+          after = refl;
+          root = refl;
+          tints = λ b l. subst (λ (j : Colouring). Turned (b ≡ h .regs .root) (TintIn hues b) (TintIn j b)) (sym begun-as) (start .tints b);
+          cells = λ b l. record { words = λ w. refl; bits = λ w. refl };
+        }
 
     pub begin-shape : Shape (begun h)
     unfolding begun
     begin-shape =
-        recoloured h p _ _ refl refl refl (begun-kept h (p .ready) i)
-        (λ c l. start .legal c l (p .colours c l))
-        (λ c l. (was-free (start .tints c l), stays-free (start .tints c l)))
-        (start .list (of-greys h (p .greys)))
+        recoloured h p _ rooted begun-as (start .blocks) refl refl (begun-kept h (p .ready) i)
+        (λ c l. start .legal c (p .colours c l))
+        (λ c l. (was-free (start .tints c), stays-free (start .tints c)))
+        (start .list (p .greys))
 
-  module _ (k : h .regs .phase ≡ marking) (n : h .regs .grey ≢ 1) (g : colour m (metWord h) ≡ Grey) where
-    head : Block m (h .regs .grey)
-    head = head-block _ _ _ (p .ready .grey) n .1
+  module _ (k : h .regs .phase ≡ marking) (n : h .regs .grey ≢ 1) where
+    abbrev first : ℕ
+    first = firstGrey hues
 
-    headGrey : colour m (colourWord (h .colours) (h .regs .grey)) ≡ Grey
-    unfolding metWord metBlock
-    headGrey = simp (ne-eqb (h .regs .phase) idle (λ z. absurd (omega arith)), eq-eqb (h .regs .phase) marking k, block-isBlock m (h .regs .grey) head) at g
+    first-grey : colourOf h first ≡ Grey
+    first-grey = linked .first hues (p .greys) n
 
-    rising : Kept m m (colouring h)
-    rising = record { legal = rw (← k) (p .ready .grey); same = p .ready .colours }
+    first-block : Block m first
+    first-block = linked .firstBlock hues fitting n
 
-    -- what the head names; the colours with the head black, and then with those grey
+    -- what the first grey block names; the colours with it black, and then with those grey
     abbrev targets : List ℕ
-    targets = referencesOf h (h .regs .grey)
+    targets = referencesOf h first
 
     abbrev blackening : Colouring
-    blackening = toBlack (colouring h)
+    blackening = toBlack hues
 
     abbrev spreads : Colouring
-    spreads = greyAll m targets blackening
+    spreads = greyAll targets blackening
 
-    lowered : Kept m m blackening
-    lowered = record { legal = next-legal m _ headGrey; same = simp length-set (p .ready .colours) }
+    spread : Greying (λ c. List·Memᴰ c targets) blackening spreads
+    spread = greying-all targets blackening (linked .blackKeeps hues fitting first-grey)
 
-    spread : Greying m (λ c. List·Memᴰ c targets) blackening spreads
-    spread = greying-all m (p .ready .most) targets blackening lowered
+    marked-as : coloured m (spreads .head) (spreads .cells) ≡ spreads
+    marked-as = recolouring h spreads (spread .blocks)
 
-    away : (c : ℕ) → Block m c → c ≢ h .regs .grey → TintIn m (blackening .cells) c ≡ TintIn m (h .colours) c
-    away c l o = ap tintOf (black-there m (p .ready .most) (colouring h) rising head c l o)
+    away : (c : ℕ) → c ≢ first → TintIn blackening c ≡ TintIn hues c
+    away c o = ap tintOf (linked .blackThere hues c first-block o)
 
-    blackened : TintIn m (blackening .cells) (h .regs .grey) ≡ tints.Black
-    blackened = ap tintOf (black-here m (p .ready .most) (colouring h) rising head)
+    blackened : TintIn blackening first ≡ tints.Black
+    blackened = ap tintOf (linked .blackHere hues fitting first-block)
 
-    blackAfter : TintIn m (spreads .cells) (h .regs .grey) ≡ tints.Black
-    blackAfter = stays-black (spread .tints (h .regs .grey) head) blackened
+    blackAfter : TintIn spreads first ≡ tints.Black
+    blackAfter = stays-black (spread .tints first) blackened
 
-    pub mark-move : Mark m (h .regs .grey) (view h) (view (marked h))
+    pub mark-move : Mark m first (view h) (view (marked h))
     unfolding marked
     mark-move =
         record {
           before = k;
           after = k;
           root = refl;
-          block = there head;
-          grey = ap tintOf headGrey;
-          black = blackAfter;
+          block = there first-block;
+          grey = ap tintOf first-grey;
+          black = ap (λ (j : Colouring). TintIn j first) marked-as ∙ blackAfter;
           tints = λ c l o.
               turned-as
-              (λ i. let q = member-names h (h .regs .grey) c i in record { at = q .word; names = names-ref h q })
-              (λ q. names-member h (h .regs .grey) c (ref-names h (q .at) (q .names) (λ z. absurd (omega arith))))
-              (subst (λ (t : tints.Tint). Turned (List·Memᴰ c targets) t (TintIn m (spreads .cells) c)) (away c (here l) o) (spread .tints c (here l)));
+              (λ i. let q = member-names h first c i in record { at = q .word; names = names-ref h q })
+              (λ q. names-member h first c (ref-names h (q .at) (q .names) (λ z. absurd (omega arith))))
+              (subst (λ (j : Colouring). Turned (List·Memᴰ c targets) (TintIn hues c) (TintIn j c)) (sym marked-as)
+              (subst (λ (t : tints.Tint). Turned (List·Memᴰ c targets) t (TintIn spreads c)) (away c o) (spread .tints c)));
           cells = λ c l. record { words = λ w. refl; bits = λ w. refl };
         }
 
     pub mark-shape : Shape (marked h)
     unfolding marked
     mark-shape =
-        recoloured h p _ _ refl refl refl (marked-kept h (p .ready) k head headGrey)
-        (λ c l. spread .legal c l (legal-black c l))
-        (λ c l. by-eq c (h .regs .grey) (λ z. at-head c z) (λ o. (λ e. sym (away c l o) ∙ was-free (spread .tints c l) e, λ e. stays-free (spread .tints c l) (away c l o ∙ e))))
-        (spread .list (black-list m (p .ready .most) (colouring h) rising head (of-greys h (p .greys))))
+        recoloured h p _ spreads marked-as (spread .blocks) refl refl (marked-kept h (p .ready) k first-grey)
+        (λ c l. spread .legal c (legal-black c l))
+        (λ c l. by-eq c first (λ z. at-first c z) (λ o. (λ e. sym (away c o) ∙ was-free (spread .tints c) e, λ e. stays-free (spread .tints c) (away c o ∙ e))))
+        (spread .list (linked .blackGreys hues fitting first-block (p .greys)))
       where
-        legal-black : (c : ℕ) → Block m c → colour m (colourWord (blackening .cells) c) ≢ Outside
+        legal-black : (c : ℕ) → Block m c → colourIn blackening c ≢ Outside
         legal-black c l =
-            by-eq c (h .regs .grey)
-            (λ z q.
-            let same = ap (λ (x : ℕ). colour m (colourWord (blackening .cells) x)) (sym z) in
-            let e : Black ≡ Outside = sym (black-here m (p .ready .most) (colouring h) rising head) ∙ same ∙ q in
-            never (cc))
-            (λ o q. p .colours c l (sym (black-there m (p .ready .most) (colouring h) rising head c l o) ∙ q))
+            by-eq c first
+            (λ z q. let e : Black ≡ Outside = sym (linked .blackHere hues fitting first-block) ∙ ap (colourIn blackening) (sym z) ∙ q in never (cc))
+            (λ o q. p .colours c l (sym (linked .blackThere hues c first-block o) ∙ q))
 
-        at-head : (c : ℕ) → c ≡ h .regs .grey → (TintIn m (spreads .cells) c ≡ tints.Free) ↔ (tintOf (colourOf h c) ≡ tints.Free)
-        at-head c z = (
-          λ e. let q : tints.Black ≡ tints.Free = sym blackAfter ∙ ap (λ (x : ℕ). TintIn m (spreads .cells) x) (sym z) ∙ e in never (cc),
-          λ e. let q : tints.Grey ≡ tints.Free = sym (ap tintOf headGrey) ∙ ap (λ (x : ℕ). tintOf (colourOf h x)) (sym z) ∙ e in never (cc),
+        at-first : (c : ℕ) → c ≡ first → (TintIn spreads c ≡ tints.Free) ↔ (tintOf (colourOf h c) ≡ tints.Free)
+        at-first c z = (
+          λ e. let q : tints.Black ≡ tints.Free = sym blackAfter ∙ ap (TintIn spreads) (sym z) ∙ e in never (cc),
+          λ e. let q : tints.Grey ≡ tints.Free = sym (ap tintOf first-grey) ∙ ap (λ (x : ℕ). tintOf (colourOf h x)) (sym z) ∙ e in never (cc),
         )
 
   module _ (k : h .regs .phase ≡ marking) (o : h .regs .grey ≡ 1) where
@@ -157,7 +161,7 @@ module _ (h : Heap) (p : Shape h) where
           after = refl;
           position = refl;
           root = refl;
-          none = λ b l e. none-listed (p .greys) o (tinted h Grey l e (λ z. never (cc)));
+          none = λ b l e. linked .empty hues b (p .greys) o (tinted h Grey l e (λ z. never (cc)) .colour);
           tints = λ b l. refl;
           cells = λ b l. record { words = λ w. refl; bits = λ w. refl };
         }
@@ -165,4 +169,4 @@ module _ (h : Heap) (p : Shape h) where
     pub turn-shape : Shape (turned h)
     unfolding turned
     turn-shape =
-        recoloured h p _ _ refl refl refl (turned-kept h (p .ready) o) (p .colours) (λ c l. (λ e. e, λ e. e)) (of-greys h (p .greys))
+        recoloured h p _ hues refl refl refl refl (turned-kept h (p .ready) o) (p .colours) (λ c l. (λ e. e, λ e. e)) (p .greys)

@@ -13,12 +13,12 @@ use mathlib.Core.Bool.{Bool, _&&_}
 use native.Mathlib.Omega.{arith}
 use lib.Dec.{eqb, leb}
 use borrow.Author.Tests.{eqb-true}
-use Rattle.machine.specs.declared.Standing.{Standing}
-use Rattle.machine.specs.declared.Standing.the-variants.{Live, Gone, Damaged}
+use Rattle.machine.specs.declared.State.{State}
+use Rattle.machine.specs.declared.State.the-variants.{LiveWhite, Doomed, Grey, Black, Free, Outside}
 use Rattle.machine.specs.Tests.{if_then_else_, _▷_}
 use Rattle.machine.specs.Block.{isBlock}
 use Rattle.machine.specs.Heap.{Heap}
-use Rattle.machine.specs.Standing.{standingOf, refusalOf, holderRefusal, targetRefusal}
+use Rattle.machine.specs.State.{stateOf, refusalOf, holderRefusal, targetRefusal}
 use Rattle.machine.specs.Entry.{entry, wordRefusal, holderPlace, targetPlace, isBlockOrNone}
 use Rattle.machine.specs.Read.{readRefusal}
 use Rattle.machine.specs.Store.{storeRefusal, rootRefusal}
@@ -66,11 +66,14 @@ pub goal-fine : (m t : ℕ) → Fine (targetPlace m t)
 unfolding targetPlace
 goal-fine m t = fine-if (isBlockOrNone m t) (small 0 (omega arith)) (small 4 (omega arith))
 
--- a block's standing refuses by 5 or 6, or by 8
-not-seven : (n : ℕ) → n < 7 → (s : Standing) → refusalOf n s ≢ 7
-not-seven n l Live z = absurd (omega arith)
-not-seven n l Gone z = absurd (omega arith)
-not-seven n l Damaged z = absurd (omega arith)
+-- a block's state refuses by 5 or 6, or by 8
+not-seven : (n : ℕ) → n < 7 → (s : State) → refusalOf n s ≢ 7
+not-seven n l LiveWhite z = absurd (omega arith)
+not-seven n l Doomed z = absurd (omega arith)
+not-seven n l Grey z = absurd (omega arith)
+not-seven n l Black z = absurd (omega arith)
+not-seven n l Free z = absurd (omega arith)
+not-seven n l Outside z = absurd (omega arith)
 
 module _ (h : Heap) (p : Shape h) where
   abbrev m : ℕ
@@ -81,11 +84,11 @@ module _ (h : Heap) (p : Shape h) where
 
   holder-seven : (b : ℕ) → holderRefusal h b ≢ 7
   unfolding holderRefusal
-  holder-seven b = not-seven 5 (omega arith) (standingOf h b)
+  holder-seven b = not-seven 5 (omega arith) (stateOf h b)
 
   target-seven : (t : ℕ) → targetRefusal h t ≢ 7
   unfolding targetRefusal
-  target-seven t = if-ind (λ (x : ℕ). x ≢ 7) (eqb t 0) (λ e z. absurd (omega arith)) (λ e. not-seven 6 (omega arith) (standingOf h t))
+  target-seven t = if-ind (λ (x : ℕ). x ≢ 7) (eqb t 0) (λ e z. absurd (omega arith)) (λ e. not-seven 6 (omega arith) (stateOf h t))
 
   pub holder-fine : (b : ℕ) → Block m b → Fine (holderRefusal h b)
   holder-fine b l = record { seven = holder-seven b; eight = holder-sound h p b l }

@@ -23,7 +23,7 @@ use Rattle.machine.specs.WellFormed.{WellFormed}
 use Rattle.machine.specs.Format.{formatted}
 use Rattle.machine.specs.Session.{Call, does, session}
 use Rattle.machine.specs.Session.Call.{Format, Read, Look, StoreNumber, StoreReference, SetRoot, Allocate, Work, Audit}
-use Rattle.machine.specs.Session.Call.{AllocateChain, ReadField, StoreFieldNumber, StoreFieldReference}
+use Rattle.machine.specs.Session.Call.{AllocateChain, ReadField, StoreFieldNumber, StoreFieldReference, State}
 use Rattle.machine.proofs.Tests.{by-eq}
 use Rattle.machine.proofs.Rounding.{round-enough}
 use Rattle.theory_moves.specs.Heaps.{Sound}
@@ -31,6 +31,7 @@ use Rattle.theory_moves.specs.Runs.{units}
 use Rattle.theory_moves.specs.Demand3.{unused, Event, Session, over, next, Settled}
 use Rattle.theory_moves.proofs.Room.{fresh-settled, enough-room, room-margin}
 use Rattle.theory_moves.specs.Demand3 as abstract
+use Rattle.machine.proofs.Steps.{never}
 use Rattle.theory_promises.specs.View.{view}
 use Rattle.theory_promises.specs.Deeds.{Act, Deed, aUnit, anAct, deed, after}
 use Rattle.theory_promises.specs.Plans.{plan, deeds, worked, Resets, asks}
@@ -215,12 +216,13 @@ asks-one (StoreNumber b w v) h s = omega arith
 asks-one (StoreReference b w t) h s = omega arith
 asks-one (SetRoot t) h s = omega arith
 asks-one (Allocate b w) h s = omega arith
-asks-one (AllocateChain b w n) h s = s
+asks-one (AllocateChain b w n) h s = s b w n refl
 asks-one (ReadField b k) h s = omega arith
 asks-one (StoreFieldNumber b k v) h s = omega arith
 asks-one (StoreFieldReference b k t) h s = omega arith
 asks-one (Work n) h s = omega arith
 asks-one Audit h s = omega arith
+asks-one (State b) h s = omega arith
 
 asking-one : (cs : List Call) (h : Heap) → Singles cs → Asking 1 cs h
 asking-one [] h s = tt
@@ -230,7 +232,7 @@ pub each-one : EachOne
 each-one = record { call = asks-one; calls = asking-one }
 
 pub room-enough : RoomEnough
-room-enough m u k cs q a l b w = room-for .further m u k 1 cs q a (omega arith) (Allocate b w) (each-one .call (Allocate b w) (session cs (formatted m u)) tt)
+room-enough m u k cs q a l b w = room-for .further m u k 1 cs q a (omega arith) (Allocate b w) (each-one .call (Allocate b w) (session cs (formatted m u)) (λ x y n e. never (cc)))
 
 pub margin : Margin
 margin m u k cs q a = omega (arith, margin-for m u k 1 cs q a)

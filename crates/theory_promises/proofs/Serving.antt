@@ -24,10 +24,9 @@ use Rattle.machine.specs.declared.Regs.{Regs}
 use Rattle.machine.specs.declared.Colour.the-variants.{Free}
 use Rattle.machine.specs.Tests.{if_then_else_, _▷_}
 use Rattle.machine.specs.Registers.{marking}
-use Rattle.machine.specs.Block.{isBlock, wordOf}
-use Rattle.machine.specs.Colouring.{greyWhite}
+use Rattle.machine.specs.Block.{wordOf}
 use Rattle.machine.specs.Heap.{Heap}
-use Rattle.machine.specs.Standing.{holderRefusal, targetRefusal}
+use Rattle.machine.specs.State.{stateOf, holderRefusal, targetRefusal}
 use Rattle.machine.specs.Entry.{holderPlace, targetPlace, isBlockOrNone}
 use Rattle.machine.specs.Read.{readRefusal}
 use Rattle.machine.specs.Store.{barrier, putNumber, putReference, storeRefusal}
@@ -37,7 +36,7 @@ use Rattle.machine.specs.Chain.{chain}
 use Rattle.machine.specs.WellFormed.{Block, Coloured, Live, WellFormed}
 use Rattle.machine.proofs.Tests.{by-eq, by-test, if-ind}
 use Rattle.machine.proofs.Blocks.{block-isBlock}
-use Rattle.machine.proofs.Refusals.{passes, entered, word-fits, holder-as}
+use Rattle.machine.proofs.Refusals.{passes, entered, word-fits, holder-as, live-unrefused}
 use Rattle.machine.proofs.Allocating.{holder-zero}
 use Rattle.theory_moves.specs.Heaps as heaps
 use Rattle.theory_moves.proofs.Mutating.{fresh-live}
@@ -46,13 +45,14 @@ use Rattle.theory_promises.specs.View.{view}
 use Rattle.theory_promises.specs.Deeds.{Act, aNumber, aReference, aTake, acted, Allows, takes, anAct, deed, after, takesIn}
 use Rattle.theory_promises.specs.Plans.{fillActs, formActs}
 use Rattle.theory_promises.proofs.Viewing.{wf-shape, live-view, view-live}
-use Rattle.theory_promises.proofs.Chains.{First, first-of, not-again}
-use Rattle.theory_promises.proofs.Painting.{word-kept}
+use Rattle.machine.proofs.Chains.{First, first-of, not-again}
+use Rattle.theory_promises.proofs.Buffers.{word-kept}
+use Rattle.theory_promises.proofs.Greys.{greying-none}
 use Rattle.theory_promises.proofs.TakingMoves.{take-root, take-held, take-count, take-next, take-links, list-first, head-count}
 use Rattle.theory_promises.proofs.DeedMoves.{act-run, deed-formed}
 use Rattle.theory_promises.proofs.Planning.{Made, made-join}
 use Rattle.theory_promises.proofs.FirstFrees.{frees-same, frees-in}
-use Rattle.theory_audit.proofs.Lists.{Distinct, listed-distinct}
+use Rattle.machine.proofs.Listing.{Distinct, listed-distinct}
 
 takes-append : (ys zs : List Act) → takesIn (map anAct (ys ++ zs)) ≡ takesIn (map anAct ys) + takesIn (map anAct zs)
 takes-append [] zs = omega arith
@@ -78,11 +78,11 @@ take-new k f b w a =
     (λ z. let t = take-held k p b w (a .1) z (l z .0) (l z .1) in fresh-live (t .steady) (t .taken .block) (t .taken .fresh))))
 
 pub barrier-none : (h : Heap) → barrier 0 h ≡ h
-unfolding barrier greyWhite isBlock
-barrier-none h = by-test (eqb (h .regs .phase) marking) (λ e. simp e) (λ e. simp e)
+unfolding barrier
+barrier-none h = by-test (eqb (h .regs .phase) marking) (λ e. simp (e, greying-none)) (λ e. simp e)
 
 pub live-holder : (k : Heap) (b : ℕ) → Live k b → holderRefusal k b ≡ 0
-live-holder k b v = sym (holder-as k b 0 _ (sym (v .standing)) refl)
+live-holder k b v = sym (holder-as k b 0 (stateOf k b) refl (sym (live-unrefused 5 (stateOf k b) (v .live))))
 
 -- words of a live block may be written
 module _ (k : Heap) (f : WellFormed k) (b w : ℕ) (v : Live k b) (i : w ≤ 7) where

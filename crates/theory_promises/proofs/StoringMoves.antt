@@ -13,7 +13,7 @@
 --     root-move, root-shape            Set root
 -- Assumes nothing.
 use Prim.Native.Nat.{ℕ, _≤_}
-use mathlib.Core.Path.{_≡_, refl, sym, _∙_, ap}
+use mathlib.Core.Path.{_≡_, refl, sym, _∙_, ap, subst}
 use mathlib.Core.Logic.{_≢_, _↔_, inl, inr}
 use mathlib.Core.Bool.{Bool, true, false, _&&_}
 use native.Mathlib.Omega.{arith}
@@ -27,7 +27,7 @@ use Rattle.machine.specs.Registers.{marking, withGrey, withRoot}
 use Rattle.machine.specs.Block.{index, place, wordOf, byteOf, bit, withBit, withoutBit}
 use Rattle.machine.specs.Colouring.{Colouring, greyWhite, headLegal}
 use Rattle.machine.specs.Heap.{Heap, heap, colouring, withRegs, withColouring, colourOf}
-use Rattle.machine.specs.Standing.{holderRefusal, targetRefusal}
+use Rattle.machine.specs.State.{holderRefusal, targetRefusal}
 use Rattle.machine.specs.Entry.{entry, wordRefusal, targetPlace}
 use Rattle.machine.specs.Read.{readRefusal}
 use Rattle.machine.specs.Store.{barrier, putNumber, putReference, storeRefusal, rootRefusal}
@@ -38,18 +38,18 @@ use Rattle.machine.proofs.Bytes.{set-here, set-there, clear-here, clear-there}
 use Rattle.machine.proofs.Entering.{first-zero, none-or-block}
 use Rattle.machine.proofs.Refusals.{word-zero, target-zero, holder-live, target-live}
 use Rattle.machine.proofs.Setting.{ready-words, ready-colours, ready-bytes, ready-grey, ready-root}
-use Rattle.machine.proofs.Kept.{head-one, head-elsewhere}
-use Rattle.theory_moves.specs.Tints.{stayed}
+use Rattle.machine.proofs.Kept.{recolouring, colouring-fits}
+use Rattle.theory_moves.specs.Tints.{Turned, stayed}
 use Rattle.theory_moves.specs.Heaps.{Abs}
 use Rattle.theory_moves.specs.Moves.{SameCells, Holds, Barred, WriteNumber, WriteRef, SetRoot}
 use Rattle.theory_moves.proofs.Tints.{stays-free, was-free}
 use Rattle.theory_reach.specs.Sums as sums
 use Rattle.theory_promises.specs.View.{tintOf, view, Shape}
 use Rattle.theory_promises.proofs.Viewing.{here, live-view}
-use Rattle.theory_promises.proofs.Chains.{chain-same, same-blocks}
-use Rattle.theory_promises.proofs.Painting.{byte-set, byte-kept, word-set, word-kept}
-use Rattle.theory_promises.proofs.Greys.{Greying, turned-as, greying-white}
-use Rattle.theory_promises.proofs.Recolouring.{of-greys, recoloured}
+use Rattle.machine.proofs.Chains.{chain-same, same-blocks}
+use Rattle.theory_promises.proofs.Buffers.{byte-set, byte-kept, word-set, word-kept}
+use Rattle.theory_promises.proofs.Greys.{TintIn, Greying, turned-as, greying-white}
+use Rattle.theory_promises.proofs.Recolouring.{recoloured}
 
 -- the view shows words up to 7 alone
 pub word-as : (u x y : ℕ) → (u ≤ 7 → x ≡ y) → (if leb u 7 then x else 0) ≡ (if leb u 7 then y else 0)
@@ -95,7 +95,7 @@ module _ (h : Heap) (p : Shape h) (b w v byte : ℕ) (l : Block (h .regs .blocks
         record {
           ready = written-ready;
           colours = p .colours;
-          greys = chain-same (p .greys) (λ x g. refl) (same-colour _) refl;
+          greys = p .greys;
           frees = chain-same (p .frees) link-kept (same-colour Free) refl;
           laid = λ c f.
               let g = same-colour Free c .0 f in
@@ -143,10 +143,10 @@ module _ (h : Heap) where
       let a = first-zero (entry h) (wordRefusal m b w ▷ holderRefusal h b) z in
       let o = first-zero (wordRefusal m b w) (holderRefusal h b) (a .1) in
       let q = word-zero m b w (o .0) in
-      record { live = record { block = q .0; standing = holder-live h b (o .1) }; low = q .1 }
+      record { live = record { block = q .0; live = holder-live h b (o .1) }; low = q .1 }
 
   target-is : (t : ℕ) → targetPlace (h .regs .blocks) t ≡ 0 → targetRefusal h t ≡ 0 → t ≢ 0 → Live h t
-  target-is t e s n = record { block = none-or-block (h .regs .blocks) t (target-zero (h .regs .blocks) t e) n; standing = target-live h t s n }
+  target-is t e s n = record { block = none-or-block (h .regs .blocks) t (target-zero (h .regs .blocks) t e) n; live = target-live h t s n }
 
   pub store-writable : (b w t : ℕ) → storeRefusal b w t h ≡ 0 → Writable h b w × (t ≢ 0 → Live h t)
   unfolding storeRefusal
@@ -157,7 +157,7 @@ module _ (h : Heap) where
       let e = first-zero (targetPlace m t) (holderRefusal h b ▷ targetRefusal h t) (o .1) in
       let s = first-zero (holderRefusal h b) (targetRefusal h t) (e .1) in
       let q = word-zero m b w (o .0) in
-      (record { live = record { block = q .0; standing = holder-live h b (s .0) }; low = q .1 }, target-is t (e .0) (s .1))
+      (record { live = record { block = q .0; live = holder-live h b (s .0) }; low = q .1 }, target-is t (e .0) (s .1))
 
   pub root-target : (t : ℕ) → rootRefusal t h ≡ 0 → t ≢ 0 → Live h t
   unfolding rootRefusal
@@ -168,14 +168,14 @@ module _ (h : Heap) where
 
 -- what the barrier leaves of the colouring
 abbrev pub barred : ℕ → Heap → Colouring
-barred t h = if eqb (h .regs .phase) marking then greyWhite (h .regs .blocks) t (colouring h) else colouring h
+barred t h = if eqb (h .regs .phase) marking then greyWhite t (colouring h) else colouring h
 
 pub barrier-as : (t : ℕ) (h : Heap) → barrier t h ≡ withColouring (barred t h) h
 unfolding barrier
 barrier-as t h = by-test (eqb (h .regs .phase) marking) (λ e. simp e) (λ e. simp e)
 
 record Guarded (h : Heap) (t : ℕ) (k : Colouring) : Type 0 where
-  greying : Greying (h .regs .blocks) (Barred (view h) t) (colouring h) k
+  greying : Greying (Barred (view h) t) (colouring h) k
   legal : headLegal (h .regs .blocks) (h .regs .phase) (k .head) ≡ true
 
 module _ (h : Heap) (p : Shape h) where
@@ -211,27 +211,35 @@ module _ (h : Heap) (p : Shape h) where
         if-ind (Guarded h t) (eqb (h .regs .phase) marking)
         (λ e.
         let s = eqb-true (h .regs .phase) marking e in
-        let f = greying-white m (p .ready .most) t (colouring h) (record { legal = rw (← s) (p .ready .grey); same = p .ready .colours }) in
+        let f = greying-white t (colouring h) (colouring-fits h (p .ready)) in
         record {
           greying = record {
+            blocks = f .blocks;
             kept = f .kept;
-            tints = λ c l. turned-as (λ z. record { phase = s; target = z }) (λ d. d .target) (f .tints c l);
+            tints = λ c. turned-as (λ z. record { phase = s; target = z }) (λ d. d .target) (f .tints c);
             legal = f .legal;
             list = f .list;
           };
-          legal = rw s (f .kept .legal);
+          legal = rw s (subst (λ (x : ℕ). headLegal x marking (greyWhite t (colouring h) .head) ≡ true) (f .blocks) (f .kept .head));
         })
         (λ e.
         let n = eqb-false (h .regs .phase) marking e in
         record {
           greying = record {
-            kept = record { legal = rw (head-elsewhere _ _ _ n (p .ready .grey)) (head-one m marking); same = p .ready .colours };
-            tints = λ c l. stayed (λ d. absurd (n (d .phase))) refl;
-            legal = λ c l o. o;
+            blocks = refl;
+            kept = colouring-fits h (p .ready);
+            tints = λ c. stayed (λ d. absurd (n (d .phase))) refl;
+            legal = λ c o. o;
             list = λ x. x;
           };
           legal = p .ready .grey;
         })
+
+    guarded-as : colouring (withColouring (barred t h) h) ≡ barred t h
+    guarded-as = recolouring h (barred t h) (guarded .greying .blocks)
+
+    guarded-tints : (c : ℕ) → Turned (Barred (view h) t c) (TintIn (colouring h) c) (TintIn (colouring (withColouring (barred t h) h)) c)
+    guarded-tints c = subst (λ (j : Colouring). Turned (Barred (view h) t c) (TintIn (colouring h) c) (TintIn j c)) (sym guarded-as) (guarded .greying .tints c)
 
     -- the heap after the barrier, with a root that is 0 or a block
     module _ (x : ℕ) (named : x ≢ 0 → Block m x) where
@@ -239,15 +247,15 @@ module _ (h : Heap) (p : Shape h) where
       guarded-ready =
           let g = guarded in
           ready-colours (ready-root (ready-grey (p .ready) (barred t h .head) (g .legal)) x named) (barred t h .cells)
-          (g .greying .kept .same ∙ sym (p .ready .colours))
+          (g .greying .kept .cells ∙ g .greying .blocks ∙ sym (p .ready .colours))
 
       guarded-shape : Shape (heap (withRoot x (withGrey (barred t h .head) (h .regs))) (h .words) (barred t h .cells) (h .bytes))
       guarded-shape =
           let g = guarded .greying in
-          recoloured h p (withRoot x (withGrey (barred t h .head) (h .regs))) (barred t h .cells) refl refl refl guarded-ready
-          (λ c l. g .legal c l (p .colours c l))
-          (λ c l. (was-free (g .tints c l), stays-free (g .tints c l)))
-          (g .list (of-greys h (p .greys)))
+          recoloured h p (withRoot x (withGrey (barred t h .head) (h .regs))) (barred t h) guarded-as (g .blocks) refl refl guarded-ready
+          (λ c l. g .legal c (p .colours c l))
+          (λ c l. (was-free (g .tints c), stays-free (g .tints c)))
+          (g .list (p .greys))
 
     module _ (b w : ℕ) (z : storeRefusal b w t h ≡ 0) where
       abbrev guard : Heap
@@ -266,7 +274,7 @@ module _ (h : Heap) (p : Shape h) where
       onto = store-writable h b w t z .0
 
       still-taken : colourOf guard b ≢ Free
-      still-taken e = live-view h (onto .live) .allocated (was-free (guarded .greying .tints b (onto .live .block)) (ap tintOf e))
+      still-taken e = live-view h (onto .live) .allocated (was-free (guarded-tints b) (ap tintOf e))
 
       pub reference-move : WriteRef m b w t (view h) (view (putReference b w t (barrier t h)))
       unfolding putReference marked
@@ -277,7 +285,7 @@ module _ (h : Heap) (p : Shape h) where
             root = refl;
             live = live-view h (onto .live);
             target = λ n. live-view h (store-writable h b w t z .1 n);
-            tints = λ c k. guarded .greying .tints c (here k);
+            tints = λ c k. guarded-tints c;
             holds = holds-after (guard-cells b) (written-holds guard guard-shape b w t marked (onto .live .block) (onto .low) true (set-here _ w) (set-there _ w));
             others = λ c k n. cells-join (guard-cells c) (written-others guard guard-shape b w t marked (onto .live .block) (onto .low) c k n);
           })
@@ -294,7 +302,7 @@ module _ (h : Heap) (p : Shape h) where
             steady = record { phase = refl; position = refl };
             root = refl;
             target = λ n. live-view h (root-target h t z n);
-            tints = λ c k. guarded .greying .tints c (here k);
+            tints = λ c k. guarded-tints c;
             cells = λ c k. record { words = λ u. refl; bits = λ u. refl };
           })
 

@@ -1,6 +1,5 @@
 -- The units of the sweep are moves: the block at the position is freed, whitened or passed. Each keeps the heap's shape.
 --     advance-same             what advance keeps of the registers
---     met-here                 the colour met is that of the block at the position
 --     onward                   the position goes on, or the sweep ends
 --     reclaim-move, reclaim-shape     a white block is freed
 --     whiten-move, whiten-shape       a black block becomes white
@@ -19,32 +18,33 @@ use lib.ListN.{length, getD}
 use borrow.Author.Tests.{eq-eqb, ne-eqb, leb-true}
 use Rattle.machine.specs.declared.Regs.{Regs}
 use Rattle.machine.specs.declared.Colour.{Colour}
-use Rattle.machine.specs.declared.Colour.the-variants.{White, Black, Free, Outside}
-use Rattle.machine.specs.Registers.{idle, marking, sweeping, withPhase, withPosition, withFree, withCount, sweepEnd}
+use Rattle.machine.specs.declared.Colour.the-variants.{White, Grey, Black, Free, Outside}
+use Rattle.machine.specs.Registers.{idle, sweeping, withPhase, withPosition, withFree, withCount, sweepEnd}
 use Rattle.machine.specs.Block.{wordOf, byteOf, bit, withEight, freeWords, clearByte}
-use Rattle.machine.specs.Colouring.{white, freed, colour, colourWord, paint}
+use Rattle.machine.specs.Colouring.{Colouring, coloured, colourIn, painted, GreysOf}
 use Rattle.machine.specs.Heap.{Heap, heap, colouring, colourOf}
 use Rattle.machine.specs.WellFormed.{Block, Coloured, LaidOut, Exactly}
 use Rattle.machine.specs.Ready.{Ready}
-use Rattle.machine.specs.OneUnit.{metBlock, metWord, advance, reclaimed, whitened, passed}
+use Rattle.machine.specs.Layout.{Plain, Fitting}
+use Rattle.machine.specs.OneUnit.{advance, reclaimed, whitened, passed}
 use Rattle.machine.proofs.Tests.{by-eq, by-test, if-ind}
-use Rattle.machine.proofs.Blocks.{block-isBlock}
 use Rattle.machine.proofs.Bytes.{free-rest}
-use Rattle.machine.proofs.Colours.{is-white, is-free}
 use Rattle.machine.proofs.Steps.{never}
-use Rattle.machine.proofs.Kept.{advance-kept, reclaimed-kept, whitened-kept}
+use Rattle.machine.proofs.Kept.{colouring-fits, advance-kept, reclaimed-kept, whitened-kept}
+use Rattle.machine.proofs.Linked.{linked}
 use Rattle.theory_moves.specs.Heaps.{span, final}
 use Rattle.theory_moves.specs.Moves.{SameCells, freeing, whitening, passing, Onward, going, ending, Sweep}
 use Rattle.theory_moves.specs.Tints as tints
 use Rattle.theory_promises.specs.View.{tintOf, view, Shape}
 use Rattle.theory_promises.proofs.Viewing.{here, there}
-use Rattle.theory_promises.proofs.Chains.{chain-same, same-blocks, chain-push, push-length}
-use Rattle.theory_promises.proofs.Painting.{painted, unpainted, eight-set, eight-kept}
-use Rattle.theory_promises.proofs.Greys.{TintIn, GreyIn, plain-list}
-use Rattle.theory_promises.proofs.Recolouring.{greys-of, of-greys, recoloured}
+use Rattle.machine.proofs.Chains.{chain-same, same-blocks, chain-push, push-length}
+use Rattle.theory_promises.proofs.Buffers.{byte-set, byte-kept, eight-set, eight-kept}
+use Rattle.theory_promises.proofs.Greys.{TintIn}
+use Rattle.theory_promises.proofs.Recolouring.{recoloured}
 
-pair : {a b c d : ℕ} → a ≡ b → c ≡ d → _≡_ {A = ℕ × ℕ} (a, c) (b, d)
-pair p q = λ i. (p i, q i)
+-- the same M and the same grey head make the same colouring
+colours-same : {a b c d : ℕ} (cs : List ℕ) → a ≡ b → c ≡ d → coloured a c cs ≡ coloured b d cs
+colours-same cs p q = λ i. coloured (p i) (q i) cs
 
 -- what advance keeps
 pub advance-same : {A : Type 0} (f : Regs → A) (r : Regs) → ((p q : ℕ) (s : Regs) → f (withPosition q (withPhase p s)) ≡ f s) → f (advance r) ≡ f r
@@ -58,20 +58,18 @@ module _ (h : Heap) (p : Shape h) (s : h .regs .phase ≡ sweeping) where
   abbrev at : ℕ
   at = h .regs .position
 
-  blocks-same : advance (h .regs) .blocks ≡ m
-  blocks-same = advance-same (λ r. r .blocks) (h .regs) (λ x y r. refl)
+  abbrev hues : Colouring
+  hues = colouring h
 
-  grey-same : advance (h .regs) .grey ≡ h .regs .grey
-  grey-same = advance-same (λ r. r .grey) (h .regs) (λ x y r. refl)
+  fitting : Fitting hues
+  fitting = colouring-fits h (p .ready)
+
+  -- the colouring whose registers are those of advance
+  advance-colours : (r : Regs) → r .blocks ≡ m → r .grey ≡ h .regs .grey → (cs : List ℕ) → coloured (advance r .blocks) (advance r .grey) cs ≡ coloured m (h .regs .grey) cs
+  advance-colours r b g cs = colours-same cs (advance-same (λ r. r .blocks) r (λ x y r. refl) ∙ b) (advance-same (λ r. r .grey) r (λ x y r. refl) ∙ g)
 
   pub position-block : Block m at
   position-block = let q = p .ready .placed s in record { low = q .0; high = q .1 }
-
-  -- the colour met is that of the block at the position
-  pub met-here : (c : Colour) → colour m (metWord h) ≡ c → colourOf h at ≡ c
-  unfolding metWord metBlock
-  met-here c e =
-      simp (ne-eqb (h .regs .phase) idle (λ z. absurd (omega arith)), ne-eqb (h .regs .phase) marking (λ z. absurd (omega arith)), block-isBlock m at position-block) at e
 
   -- a heap whose registers are those of advance, whatever its buffers and other registers
   pub onward : (r : Regs) → r .phase ≡ h .regs .phase → r .position ≡ at → r .blocks ≡ m → (ws cs bs : List ℕ) → Onward (view h) (view (heap (advance r) ws cs bs)) (final m (view h))
@@ -86,24 +84,36 @@ module _ (h : Heap) (p : Shape h) (s : h .regs .phase ≡ sweeping) where
   unfolding span
   short = position-block .high
 
-  -- painting the block at the position with a colour that is not grey
-  module _ (w : ℕ) where
-    there-kept : (c : ℕ) → Block m c → c ≢ at → TintIn m (paint at w (h .colours)) c ≡ TintIn m (h .colours) c
-    there-kept c l n = ap (λ (x : ℕ). tintOf (colour m x)) (unpainted position-block (h .colours) w c l n)
+  -- the block at the position painted
+  module _ (d : Colour) (plain : Plain d) where
+    abbrev after : Colouring
+    after = painted at d hues
 
-    here-is : colour m (colourWord (paint at w (h .colours)) at) ≡ colour m w
-    here-is = ap (colour m) (painted position-block (h .colours) w (p .ready .colours))
+    there-kept : (c : ℕ) → c ≢ at → colourIn after c ≡ colourIn hues c
+    there-kept c n = linked .paintThere hues at d c position-block n
 
-    legal-after : colour m w ≢ Outside → (c : ℕ) → Block m c → colour m (colourWord (paint at w (h .colours)) c) ≢ Outside
+    here-is : colourIn after at ≡ d
+    here-is = linked .paintHere hues at d plain fitting position-block
+
+    legal-after : d ≢ Outside → (c : ℕ) → Block m c → colourIn after c ≢ Outside
     legal-after o c l =
         by-eq c at
-        (λ z q. o (sym here-is ∙ ap (λ (x : ℕ). colour m (colourWord (paint at w (h .colours)) x)) (sym z) ∙ q))
-        (λ n q. p .colours c l (ap (colour m) (sym (unpainted position-block (h .colours) w c l n)) ∙ q))
+        (λ z q. o (sym here-is ∙ ap (colourIn after) (sym z) ∙ q))
+        (λ n q. p .colours c l (sym (there-kept c n) ∙ q))
+
+    greys-after : colourOf h at ≢ Grey → GreysOf after
+    greys-after n = linked .paintGreys hues at d fitting position-block n (p .greys)
 
   -- a black block becomes white
   module _ (k : colourOf h at ≡ Black) where
-    white-is : colour m white ≡ White
-    white-is = sym (is-white m white refl)
+    abbrev whiter : Colouring
+    whiter = painted at White hues
+
+    as-whiter : coloured (advance (h .regs) .blocks) (advance (h .regs) .grey) (whiter .cells) ≡ whiter
+    as-whiter = advance-colours (h .regs) refl refl (whiter .cells)
+
+    tint-whiter : (c : ℕ) → view (heap (advance (h .regs)) (h .words) (whiter .cells) (h .bytes)) .tint c ≡ TintIn whiter c
+    tint-whiter c = ap (λ (j : Colouring). TintIn j c) as-whiter
 
     pub whiten-move : Sweep m (view h) (view (whitened h))
     unfolding whitened
@@ -112,45 +122,41 @@ module _ (h : Heap) (p : Shape h) (s : h .regs .phase ≡ sweeping) where
           before = s;
           block = there position-block;
           short = short;
-          onward = onward (h .regs) refl refl refl (h .words) (paint at white (h .colours)) (h .bytes);
+          onward = onward (h .regs) refl refl refl (h .words) (whiter .cells) (h .bytes);
           root = advance-same (λ r. r .root) (h .regs) (λ x y r. refl);
-          here = whitening (ap tintOf k) (tint-after white-is) (record { words = λ u. refl; bits = λ u. refl });
-          tints = λ c l n. kept-after white c (here l) n;
+          here = whitening (ap tintOf k) (tint-whiter at ∙ ap tintOf (here-is White tt)) (record { words = λ u. refl; bits = λ u. refl });
+          tints = λ c l n. tint-whiter c ∙ ap tintOf (there-kept White tt c n);
           cells = λ c l n. record { words = λ u. refl; bits = λ u. refl };
         }
-      where
-        blocks-same : advance (h .regs) .blocks ≡ m
-        blocks-same = advance-same (λ r. r .blocks) (h .regs) (λ x y r. refl)
-
-        tint-after : colour m white ≡ White → tintOf (colour (advance (h .regs) .blocks) (colourWord (paint at white (h .colours)) at)) ≡ tints.White
-        tint-after e = ap (λ (n : ℕ). TintIn n (paint at white (h .colours)) at) blocks-same ∙ ap tintOf (here-is white ∙ e)
-
-        kept-after : (w c : ℕ) → Block m c → c ≢ at → TintIn (advance (h .regs) .blocks) (paint at w (h .colours)) c ≡ TintIn m (h .colours) c
-        kept-after w c l n = ap (λ (x : ℕ). TintIn x (paint at w (h .colours)) c) blocks-same ∙ there-kept w c l n
 
     pub whiten-shape : Shape (whitened h)
     unfolding whitened
     whiten-shape =
-        recoloured h p _ _ blocks-same
+        recoloured h p _ whiter as-whiter refl
         (advance-same (λ r. r .free) (h .regs) (λ x y r. refl))
         (advance-same (λ r. r .count) (h .regs) (λ x y r. refl))
         (whitened-kept h (p .ready) s)
-        (λ c l. subst (λ (n : ℕ). colour n (colourWord (paint at white (h .colours)) c) ≢ Outside) (sym blocks-same) (legal-after white (λ z. never (cc (white-is))) c l))
-        (λ c l. subst (λ (n : ℕ). (TintIn n (paint at white (h .colours)) c ≡ tints.Free) ↔ (tintOf (colourOf h c) ≡ tints.Free)) (sym blocks-same) (free-iff c l))
-        (subst (λ (r : ℕ × ℕ). Exactly (GreyIn (r .0) (paint at white (h .colours))) (colourWord (paint at white (h .colours))) 1 (r .1)) (pair (sym blocks-same) (sym grey-same))
-        (plain-list m (p .ready .most) at white (colouring h) position-block (p .ready .colours) (λ z. never (cc (k))) (λ z. never (cc (white-is))) (of-greys h (p .greys))))
+        (legal-after White tt (λ z. never (cc)))
+        free-iff
+        (greys-after White tt (λ z. never (cc)))
       where
-        free-iff : (c : ℕ) → Block m c → (TintIn m (paint at white (h .colours)) c ≡ tints.Free) ↔ (tintOf (colourOf h c) ≡ tints.Free)
+        free-iff : (c : ℕ) → Block m c → (TintIn whiter c ≡ tints.Free) ↔ (tintOf (colourOf h c) ≡ tints.Free)
         free-iff c l =
             by-eq c at
             (λ z. (
-              λ e. let q : tints.White ≡ tints.Free = sym (ap tintOf (here-is white ∙ white-is)) ∙ ap (λ (x : ℕ). TintIn m (paint at white (h .colours)) x) (sym z) ∙ e in never (cc),
+              λ e. let q : tints.White ≡ tints.Free = sym (ap tintOf (here-is White tt)) ∙ ap (TintIn whiter) (sym z) ∙ e in never (cc),
               λ e. let q : tints.Black ≡ tints.Free = sym (ap tintOf k) ∙ ap (λ (x : ℕ). tintOf (colourOf h x)) (sym z) ∙ e in never (cc),
             ))
-            (λ n. (λ e. sym (there-kept white c l n) ∙ e, λ e. there-kept white c l n ∙ e))
+            (λ n. let t = ap tintOf (there-kept White tt c n) in (λ e. sym t ∙ e, λ e. t ∙ e))
 
   -- a free block is passed
   module _ (k : colourOf h at ≡ Free) where
+    as-before : coloured (advance (h .regs) .blocks) (advance (h .regs) .grey) (h .colours) ≡ hues
+    as-before = advance-colours (h .regs) refl refl (h .colours)
+
+    tint-same : (c : ℕ) → view (heap (advance (h .regs)) (h .words) (h .colours) (h .bytes)) .tint c ≡ TintIn hues c
+    tint-same c = ap (λ (j : Colouring). TintIn j c) as-before
+
     pub pass-move : Sweep m (view h) (view (passed h))
     unfolding passed
     pass-move =
@@ -164,31 +170,25 @@ module _ (h : Heap) (p : Shape h) (s : h .regs .phase ≡ sweeping) where
           tints = λ c l n. tint-same c;
           cells = λ c l n. record { words = λ u. refl; bits = λ u. refl };
         }
-      where
-        tint-same : (c : ℕ) → TintIn (advance (h .regs) .blocks) (h .colours) c ≡ TintIn m (h .colours) c
-        tint-same c = ap (λ (n : ℕ). TintIn n (h .colours) c) blocks-same
 
     pub pass-shape : Shape (passed h)
     unfolding passed
     pass-shape =
-        recoloured h p _ _ blocks-same
+        recoloured h p _ hues as-before refl
         (advance-same (λ r. r .free) (h .regs) (λ x y r. refl))
         (advance-same (λ r. r .count) (h .regs) (λ x y r. refl))
         (advance-kept h (p .ready) s)
-        (λ c l. subst (λ (n : ℕ). colour n (colourWord (h .colours) c) ≢ Outside) (sym blocks-same) (p .colours c l))
-        (λ c l. subst (λ (n : ℕ). (TintIn n (h .colours) c ≡ tints.Free) ↔ (tintOf (colourOf h c) ≡ tints.Free)) (sym blocks-same) (λ e. e, λ e. e))
-        (subst (λ (r : ℕ × ℕ). Exactly (GreyIn (r .0) (h .colours)) (colourWord (h .colours)) 1 (r .1)) (pair (sym blocks-same) (sym grey-same)) (of-greys h (p .greys)))
+        (p .colours)
+        (λ c l. (λ e. e, λ e. e))
+        (p .greys)
 
   -- a white block is freed
   module _ (k : colourOf h at ≡ White) where
-    freed-is : colour m freed ≡ Free
-    freed-is = sym (is-free m freed refl)
-
     abbrev words′ : List ℕ
     words′ = withEight (h .words) at (freeWords (h .regs .free))
 
-    abbrev colours′ : List ℕ
-    colours′ = paint at freed (h .colours)
+    abbrev freer : Colouring
+    freer = painted at Free hues
 
     abbrev bytes′ : List ℕ
     bytes′ = clearByte (h .bytes) at
@@ -200,17 +200,17 @@ module _ (h : Heap) (p : Shape h) (s : h .regs .phase ≡ sweeping) where
     words-here : (u : ℕ) → u ≤ 7 → wordOf words′ at u ≡ getD (freeWords (h .regs .free)) u 0
     words-here u o = eight-set position-block (h .words) (freeWords (h .regs .free)) (p .ready .words) refl u o
 
-    byte-kept : (c : ℕ) → Block m c → c ≢ at → byteOf bytes′ c ≡ byteOf (h .bytes) c
-    byte-kept c l n = unpainted position-block (h .bytes) 0 c l n
+    byte-there : (c : ℕ) → Block m c → c ≢ at → byteOf bytes′ c ≡ byteOf (h .bytes) c
+    byte-there c l n = byte-kept position-block (h .bytes) 0 c l n
 
     byte-here : byteOf bytes′ at ≡ 0
-    byte-here = painted position-block (h .bytes) 0 (p .ready .bytes)
+    byte-here = byte-set position-block (h .bytes) 0 (p .ready .bytes)
 
-    cells-kept : (r : Regs) (c : ℕ) → Block m c → c ≢ at → SameCells (view h) (view (heap r words′ colours′ bytes′)) c
+    cells-kept : (r : Regs) (c : ℕ) → Block m c → c ≢ at → SameCells (view h) (view (heap r words′ (freer .cells) bytes′)) c
     cells-kept r c l n =
         record {
           words = λ u. by-test (leb u 7) (λ t. simp t (words-kept c u (leb-true u 7 t) l n)) (λ t. simp t);
-          bits = λ u. ap (λ (x : ℕ). leb u 7 && bit x u) (byte-kept c l n);
+          bits = λ u. ap (λ (x : ℕ). leb u 7 && bit x u) (byte-there c l n);
         }
 
     bits-clear : (u : ℕ) → (leb u 7 && bit (byteOf bytes′ at) u) ≡ false
@@ -219,15 +219,18 @@ module _ (h : Heap) (p : Shape h) (s : h .regs .phase ≡ sweeping) where
 
     -- the registers afterwards: the position has gone on, the block is the free head, and the count is one more
     module _ (r : Regs) (blocks : r .blocks ≡ m) (free : r .free ≡ at) (count : r .count ≡ h .regs .count + 1) (grey : r .grey ≡ h .regs .grey)
-        (ready : Ready (heap r words′ colours′ bytes′)) where
+        (ready : Ready (heap r words′ (freer .cells) bytes′)) where
       abbrev next : Heap
-      next = heap r words′ colours′ bytes′
+      next = heap r words′ (freer .cells) bytes′
 
-      tint-there : (c : ℕ) → Block m c → c ≢ at → colourOf next c ≡ colourOf h c
-      tint-there c l n = ap (λ (x : ℕ). colour x (colourWord colours′ c)) blocks ∙ ap (colour m) (unpainted position-block (h .colours) freed c l n)
+      kept-as : coloured (r .blocks) (r .grey) (freer .cells) ≡ freer
+      kept-as = colours-same (freer .cells) blocks grey
+
+      tint-there : (c : ℕ) → c ≢ at → colourOf next c ≡ colourOf h c
+      tint-there c n = ap (λ (j : Colouring). colourIn j c) kept-as ∙ there-kept Free tt c n
 
       tint-here : colourOf next at ≡ Free
-      tint-here = ap (λ (x : ℕ). colour x (colourWord colours′ at)) blocks ∙ here-is freed ∙ freed-is
+      tint-here = ap (λ (j : Colouring). colourIn j at) kept-as ∙ here-is Free tt
 
       block-back : {c : ℕ} → Block (r .blocks) c → Block m c
       block-back {c} l = subst (λ (x : ℕ). Block x c) blocks l
@@ -237,8 +240,8 @@ module _ (h : Heap) (p : Shape h) (s : h .regs .phase ≡ sweeping) where
 
       free-iff : (c : ℕ) → c ≢ at → Coloured next Free c ↔ Coloured h Free c
       free-iff c n = (
-        λ f. record { block = block-back (f .block); colour = sym (tint-there c (block-back (f .block)) n) ∙ f .colour },
-        λ f. record { block = block-on (f .block); colour = tint-there c (f .block) n ∙ f .colour },
+        λ f. record { block = block-back (f .block); colour = sym (tint-there c n) ∙ f .colour },
+        λ f. record { block = block-on (f .block); colour = tint-there c n ∙ f .colour },
       )
 
       not-free : Coloured h Free at → ⊥
@@ -268,7 +271,7 @@ module _ (h : Heap) (p : Shape h) (s : h .regs .phase ≡ sweeping) where
           (λ n.
           let d = p .laid b (free-iff b n .0 f) in
           let l = block-back (f .block) in
-          record { byte = byte-kept b l n ∙ d .byte; words = λ u o q. words-kept b u q l n ∙ d .words u o q })
+          record { byte = byte-there b l n ∙ d .byte; words = λ u o q. words-kept b u q l n ∙ d .words u o q })
 
       pub freed-shape : Shape next
       freed-shape =
@@ -276,10 +279,8 @@ module _ (h : Heap) (p : Shape h) (s : h .regs .phase ≡ sweeping) where
             ready = ready;
             colours = λ c l. by-eq c at
                 (λ z q. let e : Free ≡ Outside = sym tint-here ∙ ap (colourOf next) (sym z) ∙ q in never (cc))
-                (λ n q. p .colours c (block-back l) (sym (tint-there c (block-back l) n) ∙ q));
-            greys = greys-of next
-                (subst (λ (x : ℕ × ℕ). Exactly (GreyIn (x .0) colours′) (colourWord colours′) 1 (x .1)) (pair (sym blocks) (sym grey))
-                (plain-list m (p .ready .most) at freed (colouring h) position-block (p .ready .colours) (λ z. never (cc (k))) (λ z. never (cc (freed-is))) (of-greys h (p .greys))));
+                (λ n q. p .colours c (block-back l) (sym (tint-there c n) ∙ q));
+            greys = subst GreysOf (sym kept-as) (greys-after Free tt (λ z. never (cc)));
             frees = chain-same pushed (λ x f. refl) (λ x. (λ f. f, λ f. f)) free;
             laid = laid-out;
             counted = ap length (same-blocks pushed (λ x f. refl) (λ x. (λ f. f, λ f. f)) free) ∙ pushed-length ∙ ap suc (p .counted) ∙ sym (add-one (h .regs .count)) ∙ sym count;
@@ -295,15 +296,15 @@ module _ (h : Heap) (p : Shape h) (s : h .regs .phase ≡ sweeping) where
           before = s;
           block = there position-block;
           short = short;
-          onward = onward counted-up refl refl refl words′ colours′ bytes′;
+          onward = onward counted-up refl refl refl words′ (freer .cells) bytes′;
           root = advance-same (λ r. r .root) counted-up (λ x y r. refl);
-          here = freeing (ap tintOf k) (tint-on at ∙ ap tintOf (here-is freed ∙ freed-is)) bits-clear;
-          tints = λ c l n. tint-on c ∙ there-kept freed c (here l) n;
+          here = freeing (ap tintOf k) (tint-on at ∙ ap tintOf (here-is Free tt)) bits-clear;
+          tints = λ c l n. tint-on c ∙ ap tintOf (there-kept Free tt c n);
           cells = λ c l n. cells-kept (advance counted-up) c (here l) n;
         }
       where
-        tint-on : (c : ℕ) → TintIn (advance counted-up .blocks) colours′ c ≡ TintIn m colours′ c
-        tint-on c = ap (λ (n : ℕ). TintIn n colours′ c) (advance-same (λ r. r .blocks) counted-up (λ x y r. refl))
+        tint-on : (c : ℕ) → view (heap (advance counted-up) words′ (freer .cells) bytes′) .tint c ≡ TintIn freer c
+        tint-on c = ap (λ (j : Colouring). TintIn j c) (advance-colours counted-up refl refl (freer .cells))
 
     pub reclaim-shape : h .regs .count ≢ m → Shape (reclaimed h)
     unfolding reclaimed

@@ -14,42 +14,45 @@
 use Prim.Native.Nat.{ℕ, _+_, _-_, _≤_}
 use mathlib.Core.Path.{_≡_, refl, sym, _∙_, ap, subst}
 use mathlib.Core.Logic.{_≢_, _↔_, _⊎_, inl, inr}
-use mathlib.Core.Bool.{true, _&&_, _||_}
+use mathlib.Core.Bool.{true}
 use mathlib.Core.List.{List, List·Memᴰ, List·Memᴰ·head, List·Memᴰ·tail}
 use native.Mathlib.Omega.{arith}
-use lib.Dec.{eqb, leb}
+use lib.Dec.{eqb}
 use lib.ListN.{length, set, length-set}
 use borrow.Author.Tests.{eq-eqb, ne-eqb}
 use Rattle.machine.specs.declared.Colour.{Colour}
 use Rattle.machine.specs.declared.Colour.the-variants.{White, Grey, Black, Free, Outside}
 use Rattle.machine.specs.Tests.{if_then_else_, _▷_}
-use Rattle.machine.specs.Registers.{marking, sweeping, withFree, withCount, withRoot}
+use Rattle.machine.specs.Registers.{idle, marking, sweeping, withFree, withCount, withRoot}
 use Rattle.machine.specs.Block.{place, wordOf, byteOf, withBit}
-use Rattle.machine.specs.Colouring.{white, black, colour, freeColour, paint}
+use Rattle.machine.specs.Colouring.{freeColour, painted}
 use Rattle.machine.specs.Heap.{Heap, heap, colouring, withRegs, colourOf}
-use Rattle.machine.specs.Standing.{standingOf, holderRefusal, targetRefusal}
+use Rattle.machine.specs.State.{holderRefusal, targetRefusal, mayBeBlack, newColour}
 use Rattle.machine.specs.Store.{putReference}
-use Rattle.machine.specs.Allocate.{firstFits, listRefusal, newColour, taken, held, takeRefusal}
+use Rattle.machine.specs.Allocate.{firstFits, listRefusal, taken, held, takeRefusal}
 use Rattle.machine.specs.WellFormed.{Block, Coloured, Live, Listed, ends, goes}
 use Rattle.machine.specs.Ready.{Ready}
-use Rattle.machine.proofs.Tests.{by-eq, both, if-ind}
+use Rattle.machine.specs.Layout.{Plain}
+use Rattle.machine.proofs.Tests.{by-test, by-eq, both, if-ind}
 use Rattle.machine.proofs.Bytes.{set-here, set-there}
-use Rattle.machine.proofs.Colours.{is-white, is-black}
 use Rattle.machine.proofs.Steps.{never}
 use Rattle.machine.proofs.Setting.{ready-words, ready-colours, ready-count, ready-free, ready-root}
 use Rattle.machine.proofs.Entering.{first-zero, block-or-none}
 use Rattle.machine.proofs.Refusals.{holder-live, within-layout, holder-undamaged, target-undamaged}
-use Rattle.machine.proofs.Allocating.{new-marking, new-ahead, new-behind, new-idle, list-none, list-good, list-zero, take-zero, held-root, held-word}
+use Rattle.machine.proofs.States.{black-ahead, black-not-idle, may-be-black}
+use Rattle.machine.proofs.Kept.{colouring-fits}
+use Rattle.machine.proofs.Linked.{linked}
+use Rattle.machine.proofs.Allocating.{new-black, new-white, list-none, list-good, list-zero, take-zero, held-root, held-word}
 use Rattle.theory_reach.proofs.Splits.{by-le}
 use Rattle.theory_moves.specs.Heaps.{Abs}
 use Rattle.theory_moves.specs.Moves.{SameCells, Fresh, newMarking, newAhead, newBehind, newIdle, Taken, TakeHeld, TakeRoot}
 use Rattle.theory_reach.specs.Sums as sums
+use Rattle.theory_moves.specs.Tints as tints
 use Rattle.theory_promises.specs.View.{tintOf, view, Shape}
 use Rattle.theory_promises.proofs.Viewing.{here, there, live-view}
-use Rattle.theory_promises.proofs.Chains.{chain-pop, pop-length}
-use Rattle.theory_promises.proofs.Painting.{painted, unpainted, word-set, word-kept}
-use Rattle.theory_promises.proofs.Greys.{plain-list}
-use Rattle.theory_promises.proofs.Recolouring.{greys-of, of-greys, recoloured}
+use Rattle.machine.proofs.Chains.{chain-pop, pop-length}
+use Rattle.theory_promises.proofs.Buffers.{word-set, word-kept}
+use Rattle.theory_promises.proofs.Recolouring.{recoloured}
 use Rattle.theory_promises.proofs.StoringMoves.{word-as, cells-join, holds-after, written-shape, written-holds, written-others, live-taken}
 
 -- the first of a list, and the next
@@ -123,12 +126,10 @@ module _ (h : Heap) (p : Shape h) where
 
   -- colours are legal, so no block is refused by 8
   pub holder-sound : (b : ℕ) → Block m b → holderRefusal h b ≢ 8
-  unfolding standingOf
-  holder-sound b l = holder-undamaged h b (within-layout (h .regs) b (colourOf h b) (p .colours b l))
+  holder-sound b l = holder-undamaged h b (within-layout (h .regs) (colouring h) b (p .colours b l))
 
   pub target-sound : (t : ℕ) → (t ≢ 0 → Block m t) → targetRefusal h t ≢ 8
-  unfolding standingOf
-  target-sound t l = target-undamaged h t (λ n. within-layout (h .regs) t (colourOf h t) (p .colours t (l n)))
+  target-sound t l = target-undamaged h t (λ n. within-layout (h .regs) (colouring h) t (p .colours t (l n)))
 
   pub take-sound : (b : ℕ) → (b ≢ 0 → Block m b) → takeRefusal b h ≢ 8
   unfolding takeRefusal _▷_
@@ -137,49 +138,47 @@ module _ (h : Heap) (p : Shape h) where
       (λ t. by-eq b 0 (λ z e. absurd (omega (arith, simp (eq-eqb b 0 z) at e))) (λ n. simp (ne-eqb b 0 n) (holder-sound b (l n))))
 
   -- the colour of the new block: white or black
-  abbrev hue : ℕ
+  abbrev hue : Colour
   hue = newColour (h .regs) x
 
-  black-is : colour m black ≡ Black
-  black-is = sym (is-black m black refl)
-
-  white-is : colour m white ≡ White
-  white-is = sym (is-white m white refl)
-
-  pub new-neither : (c : Colour) → c ≢ White → c ≢ Black → colour m hue ≢ c
+  pub new-neither : (c : Colour) → c ≢ White → c ≢ Black → hue ≢ c
   unfolding newColour
-  new-neither c w k =
-      if-ind (λ (n : ℕ). colour m n ≢ c) (eqb (h .regs .phase) marking || (eqb (h .regs .phase) sweeping && leb (h .regs .position) x))
-      (λ t e. k (sym e ∙ black-is))
-      (λ t e. w (sym e ∙ white-is))
+  new-neither c w k = if-ind (λ (d : Colour). d ≢ c) (mayBeBlack (h .regs) x) (λ t e. k (sym e)) (λ t e. w (sym e))
 
-  new-fresh : Fresh (view h) x (tintOf (colour m hue))
+  new-plain : Plain hue
+  unfolding newColour
+  new-plain = if-ind Plain (mayBeBlack (h .regs) x) (λ t. tt) (λ t. tt)
+
+  new-fresh : Fresh (view h) x (tintOf hue)
   new-fresh =
       by-eq (h .regs .phase) marking
-      (λ k. newMarking k (tinted-by black (new-marking (h .regs) x k) ∙ ap tintOf black-is))
+      (λ k. newMarking k (blackly (may-be-black (h .regs) x (p .ready .phase) (λ i. absurd (omega arith)) (λ s. absurd (omega arith)))))
       (λ k. by-eq (h .regs .phase) sweeping
       (λ s. by-le (h .regs .position) x
-      (λ l. newAhead s l (tinted-by black (new-ahead (h .regs) x k s l) ∙ ap tintOf black-is))
-      (λ l. newBehind s l (tinted-by white (new-behind (h .regs) x k s l) ∙ ap tintOf white-is)))
-      (λ s. let f = p .ready .phase in newIdle (omega arith) (tinted-by white (new-idle (h .regs) x k s) ∙ ap tintOf white-is)))
+      (λ l. newAhead s l (blackly (may-be-black (h .regs) x (p .ready .phase) (λ i. absurd (omega arith)) (λ z. l))))
+      (λ l. newBehind s l (whitely (λ t. let q = black-ahead (h .regs) x t s in omega arith))))
+      (λ s. let f = p .ready .phase in let i : h .regs .phase ≡ idle = omega arith in newIdle i (whitely (λ t. black-not-idle (h .regs) x t i))))
     where
-      tinted-by : (n : ℕ) → n ≡ hue → tintOf (colour m hue) ≡ tintOf (colour m n)
-      tinted-by n e = ap (λ (y : ℕ). tintOf (colour m y)) (sym e)
+      blackly : mayBeBlack (h .regs) x ≡ true → tintOf hue ≡ tints.Black
+      blackly t = ap tintOf (sym (new-black (h .regs) x t))
+
+      whitely : (mayBeBlack (h .regs) x ≡ true → ⊥) → tintOf hue ≡ tints.White
+      whitely n = by-test (mayBeBlack (h .regs) x) (λ t. absurd (n t)) (λ t. ap tintOf (sym (new-white (h .regs) x t)))
 
   -- the first free block is taken
   module _ (n : x ≢ 0) where
     abbrev popped : Heap
     popped =
-        heap (withCount (h .regs .count - 1) (withFree link (h .regs))) (set (h .words) (place x 0) 0) (paint x hue (h .colours)) (h .bytes)
+        heap (withCount (h .regs .count - 1) (withFree link (h .regs))) (set (h .words) (place x 0) 0) (painted x hue (colouring h) .cells) (h .bytes)
 
     block : Block m x
     block = first-free n .block
 
-    colour-there : (c : ℕ) → Block m c → c ≢ x → colourOf popped c ≡ colourOf h c
-    colour-there c l o = ap (colour m) (unpainted block (h .colours) hue c l o)
+    colour-there : (c : ℕ) → c ≢ x → colourOf popped c ≡ colourOf h c
+    colour-there c o = linked .paintThere (colouring h) x hue c block o
 
-    colour-here : colourOf popped x ≡ colour m hue
-    colour-here = ap (colour m) (painted block (h .colours) hue (p .ready .colours))
+    colour-here : colourOf popped x ≡ hue
+    colour-here = linked .paintHere (colouring h) x hue new-plain (colouring-fits h (p .ready)) block
 
     -- no longer free
     taken-out : Coloured popped Free x → ⊥
@@ -190,8 +189,8 @@ module _ (h : Heap) (p : Shape h) where
 
     free-as : (c : ℕ) → c ≢ x → Coloured popped Free c ↔ Coloured h Free c
     free-as c o = (
-      λ f. record { block = f .block; colour = sym (colour-there c (f .block) o) ∙ f .colour },
-      λ f. record { block = f .block; colour = colour-there c (f .block) o ∙ f .colour },
+      λ f. record { block = f .block; colour = sym (colour-there c o) ∙ f .colour },
+      λ f. record { block = f .block; colour = colour-there c o ∙ f .colour },
     )
 
     word-there : (c u : ℕ) → Block m c → u ≤ 7 → (c ≢ x) ⊎ (u ≢ 0) → wordOf (popped .words) c u ≡ wordOf (h .words) c u
@@ -205,7 +204,8 @@ module _ (h : Heap) (p : Shape h) where
         let d = p .ready in
         let c = d .count in
         ready-words
-        (ready-colours (ready-count (ready-free d link (λ o. next-free n o .block)) (h .regs .count - 1) (omega arith)) (paint x hue (h .colours)) (simp length-set))
+        (ready-colours (ready-count (ready-free d link (λ o. next-free n o .block)) (h .regs .count - 1) (omega arith)) (painted x hue (colouring h) .cells)
+        (linked .paintKeeps (colouring h) x hue (colouring-fits h d) .cells ∙ sym (d .colours)))
         (set (h .words) (place x 0) 0) (simp length-set)
 
     popped-shape : Shape popped
@@ -214,12 +214,10 @@ module _ (h : Heap) (p : Shape h) where
           ready = popped-ready;
           colours = λ c l. by-eq c x
               (λ z e. new-neither Outside (λ y. never (cc)) (λ y. never (cc)) (sym colour-here ∙ ap (λ (y : ℕ). colourOf popped y) (sym z) ∙ e))
-              (λ o e. p .colours c l (sym (colour-there c l o) ∙ e));
-          greys = greys-of popped
-              (plain-list m (p .ready .most) x hue (colouring h) block (p .ready .colours)
-              (λ e. let q : Free ≡ Grey = sym (first-free n .colour) ∙ e in never (cc))
-              (new-neither Grey (λ z. never (cc)) (λ z. never (cc)))
-              (of-greys h (p .greys)));
+              (λ o e. p .colours c l (sym (colour-there c o) ∙ e));
+          greys =
+              linked .paintGreys (colouring h) x hue (colouring-fits h (p .ready)) block
+              (λ e. let q : Free ≡ Grey = sym (first-free n .colour) ∙ e in never (cc)) (p .greys);
           frees = chain-pop (p .frees) n link-there taken-out free-as;
           laid = λ c f.
               let o = left c f in
@@ -238,7 +236,7 @@ module _ (h : Heap) (p : Shape h) where
           block = there block;
           free = ap tintOf (first-free n .colour);
           fresh = subst (Fresh (view h) x) (ap tintOf (sym colour-here)) new-fresh;
-          tints = λ c l o. ap tintOf (colour-there c (here l) o);
+          tints = λ c l o. ap tintOf (colour-there c o);
           emptied = word-set block (h .words) 0 0 (p .ready .words) (omega arith);
           words = λ u o. word-as u (wordOf (popped .words) x u) (wordOf (h .words) x u) (λ q. word-there x u block q (inr o));
           bits = λ u. refl;
@@ -270,9 +268,9 @@ module _ (h : Heap) (p : Shape h) where
       root-taken-shape =
           let s = popped-shape some in
           rw (rooted e)
-          (recoloured (popped some) s (withRoot x (popped some .regs)) (popped some .colours) refl refl refl
+          (recoloured (popped some) s (withRoot x (popped some .regs)) (colouring (popped some)) refl refl refl refl
           (ready-root (s .ready) x (λ o. block some))
-          (s .colours) (λ c l. (λ f. f, λ f. f)) (of-greys (popped some) (s .greys)))
+          (s .colours) (λ c l. (λ f. f, λ f. f)) (s .greys))
 
     stored : b ≢ 0 → held b w x (taken h) ≡ putReference b w x (taken h)
     stored e = sym (held-word (taken h) b w x e refl)
@@ -281,7 +279,7 @@ module _ (h : Heap) (p : Shape h) where
     module _ (e : b ≢ 0) (l : Block m b) (low : w ≤ 7) where
       holder : Live h b
       unfolding takeRefusal
-      holder = record { block = l; standing = holder-live h b (simp (ne-eqb b 0 e) at (first-zero (if eqb b 0 then 0 else holderRefusal h b) (listRefusal h) z .0)) }
+      holder = record { block = l; live = holder-live h b (simp (ne-eqb b 0 e) at (first-zero (if eqb b 0 then 0 else holderRefusal h b) (listRefusal h) z .0)) }
 
       apart : b ≢ x
       apart o = live-taken holder (ap (λ (y : ℕ). colourOf h y) o ∙ first-free some .colour)
@@ -309,7 +307,7 @@ module _ (h : Heap) (p : Shape h) where
       held-taken-shape =
           rw (stored e)
           (written-shape (popped some) (popped-shape some) b w x byte l low
-          (λ o. live-taken holder (sym (colour-there some b l apart) ∙ o)))
+          (λ o. live-taken holder (sym (colour-there some b apart) ∙ o)))
 
     pub take-shape : (b ≢ 0 → Block m b × (w ≤ 7)) → Shape (held b w x (taken h))
     take-shape i = by-eq b 0 root-taken-shape (λ e. held-taken-shape e (i e .0) (i e .1))

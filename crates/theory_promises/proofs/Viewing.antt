@@ -1,31 +1,33 @@
 -- A heap is well-formed exactly where its view is sound and its shape is right.
 --     here, there              block numbers as the machine and as the abstract collector have them
---     colour-is                a block's colour, by its tint
+--     colour-is, free-is       a block's colour, by its tint
+--     allocated-tint           a tint that isn't free is of an allocated block
 --     live-view, view-live     live in the machine and in the view
 --     names-ref, ref-names     what a block names, in the machine and in the view
 --     wf-shape, wf-sound, shape-wf     the two halves of well-formed, and back
 -- Assumes nothing.
 use Prim.Native.Nat.{ℕ}
-use mathlib.Core.Path.{_≡_, refl, sym, _∙_, ap}
+use mathlib.Core.Path.{_≡_, refl, sym, ap}
 use mathlib.Core.Logic.{_≢_}
-use mathlib.Core.Bool.{false, _&&_}
+use mathlib.Core.Bool.{true, false, _&&_}
 use native.Mathlib.Nat.{zero-div}
 use native.Mathlib.Omega.{arith}
-use lib.Dec.{leb, eqb}
-use borrow.Author.Tests.{leb-true, le-leb, eqb-true, eq-eqb}
+use lib.Dec.{leb}
+use borrow.Author.Tests.{leb-true, le-leb}
 use Rattle.machine.specs.declared.Colour.{Colour}
 use Rattle.machine.specs.declared.Colour.the-variants.{White, Grey, Black, Free, Outside}
-use Rattle.machine.specs.declared.Standing.the-variants.{Live as live}
-use Rattle.machine.specs.Registers.{idle, marking, sweeping}
+use Rattle.machine.specs.Registers.{idle, marking}
 use Rattle.machine.specs.Block.{byteOf, bit}
-use Rattle.machine.specs.Heap.{Heap, colourOf}
-use Rattle.machine.specs.Standing.{doomedWhite, standing, standingOf}
+use Rattle.machine.specs.Colouring.{allocatedColour}
+use Rattle.machine.specs.Heap.{Heap, colouring, colourOf}
+use Rattle.machine.specs.State.{ahead}
 use Rattle.machine.specs.WellFormed.{Block, Coloured, Live, Names, LaidOut, WellFormed}
-use Rattle.machine.proofs.Tests.{both-true, by-test, by-eq}
+use Rattle.machine.proofs.Tests.{by-test, by-eq, clash}
 use Rattle.machine.proofs.Steps.{never}
 use Rattle.machine.proofs.Entering.{tests-ready, ready-fits, ready-legal}
-use Rattle.machine.proofs.Kept.{head-elsewhere}
-use Rattle.theory_moves.specs.Heaps.{named, ref, Doomed, Sound}
+use Rattle.machine.proofs.States.{ahead-is, is-ahead, live-white, live-colour, allocated-live}
+use Rattle.machine.proofs.Linked.{linked}
+use Rattle.theory_moves.specs.Heaps.{named, ref, Sound}
 use Rattle.theory_reach.specs.Sums as sums
 use Rattle.theory_moves.specs.Tints as tints
 use Rattle.theory_moves.specs.Heaps as heaps
@@ -73,40 +75,41 @@ free-is Black e n = never (cc)
 free-is Free e n = refl
 free-is Outside e n = absurd (n refl)
 
+-- a colour that is allocated
+pub allocated-tint : (c : Colour) → tintOf c ≢ tints.Free → allocatedColour c ≡ true
+allocated-tint White n = refl
+allocated-tint Grey n = refl
+allocated-tint Black n = refl
+allocated-tint Free n = absurd (n refl)
+allocated-tint Outside n = absurd (n refl)
+
+tint-allocated : (c : Colour) → allocatedColour c ≡ true → tintOf c ≢ tints.Free
+tint-allocated White e z = never (cc)
+tint-allocated Grey e z = never (cc)
+tint-allocated Black e z = never (cc)
+tint-allocated Free e z = clash e refl
+tint-allocated Outside e z = clash e refl
+
 module _ (h : Heap) where
-  live-of : (b : ℕ) (c : Colour) → colourOf h b ≡ c → standing (h .regs) b c ≡ live → (tintOf c ≢ tints.Free) × (Doomed (view h) b → ⊥)
-  unfolding standing doomedWhite
-  live-of b White e s = (
-    λ z. never (cc),
-    λ d. never (cc (simp (eq-eqb (h .regs .phase) sweeping (d .phase), le-leb (h .regs .position) b (d .ahead)) at s)),
-  )
-  live-of b Grey e s = (λ z. never (cc), λ d. let w : tintOf Grey ≡ tints.White = ap tintOf (sym e) ∙ d .white in never (cc))
-  live-of b Black e s = (λ z. never (cc), λ d. let w : tintOf Black ≡ tints.White = ap tintOf (sym e) ∙ d .white in never (cc))
-  live-of b Free e s = never (cc)
-  live-of b Outside e s = never (cc)
-
   pub live-view : {b : ℕ} → Live h b → heaps.Live (h .regs .blocks) (view h) b
-  unfolding standingOf
   live-view {b} l =
-      let p = live-of b (colourOf h b) refl (l .standing) in
-      record { block = there (l .block); allocated = p .0; spared = p .1 }
-
-  spared-live : (b : ℕ) (c : Colour) → colourOf h b ≡ c → tintOf c ≢ tints.Free → (Doomed (view h) b → ⊥) → standing (h .regs) b c ≡ live
-  unfolding standing doomedWhite
-  spared-live b White e n d =
-      by-test (eqb (h .regs .phase) sweeping && leb (h .regs .position) b)
-      (λ t.
-      let p = both-true (eqb (h .regs .phase) sweeping) (leb (h .regs .position) b) t in
-      absurd (d (record { phase = eqb-true _ _ (p .0); ahead = leb-true _ _ (p .1); white = ap tintOf e })))
-      (λ t. simp t)
-  spared-live b Grey e n d = refl
-  spared-live b Black e n d = refl
-  spared-live b Free e n d = absurd (n refl)
-  spared-live b Outside e n d = absurd (n refl)
+      record {
+        block = there (l .block);
+        allocated = tint-allocated (colourOf h b) (live-colour (h .regs) (colouring h) b (l .live));
+        spared = λ d. clash
+            (is-ahead (h .regs) b (record { sweeps = d .phase; reached = d .ahead }))
+            (live-white (h .regs) (colouring h) b (l .live) (colour-is (colourOf h b) White (d .white) (λ z. never (cc))));
+      }
 
   pub view-live : {b : ℕ} → heaps.Live (h .regs .blocks) (view h) b → Live h b
-  unfolding standingOf
-  view-live {b} l = record { block = here (l .block); standing = spared-live b (colourOf h b) refl (l .allocated) (l .spared) }
+  view-live {b} l =
+      record {
+        block = here (l .block);
+        live = allocated-live (h .regs) (colouring h) b (allocated-tint (colourOf h b) (l .allocated))
+            (λ w. by-test (ahead (h .regs) b)
+            (λ t. let a = ahead-is (h .regs) b t in absurd (l .spared (record { phase = a .sweeps; ahead = a .reached; white = ap tintOf w })))
+            (λ t. t));
+      }
 
   pub names-ref : {b x : ℕ} (n : Names h b x) → ref (view h) b (n .word) ≡ x
   unfolding named
@@ -167,7 +170,7 @@ module _ (h : Heap) where
         frees = p .frees;
         laid = p .laid;
         counted = p .counted;
-        greyHead = λ n. head-elsewhere _ _ _ n (p .ready .grey);
+        greyHead = λ n. linked .rest _ _ _ n (p .ready .grey);
         greyless = λ n b g. grey-none n b g;
         blackless = λ i b k. s .idleBlack i b (there (k .block)) (ap tintOf (k .colour));
         swept = λ w b k l. s .sweptBlack w b (there (k .block)) l (ap tintOf (k .colour));

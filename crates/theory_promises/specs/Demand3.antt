@@ -7,7 +7,7 @@
 --     Asking n cs h        no call of the session asks for more than n blocks
 --     RoomFor, MarginFor   no call is refused for want of room, and the margin, where calls ask for at most B blocks: K + 2N + B - 1 ≤ M
 --     RoomAsRead, MarginAsRead     the same with N + B - 1 for N, as document 02 reads demand 3: K + 2(N + B - 1) ≤ M
---     Single c, Singles cs     the call asks for one block at most; each call of the session does
+--     Single c, Singles cs     the call is no chain of two blocks or more; no call of the session is
 --     EachOne              sessions of such calls ask for one block at most: those of document 01's nine calls among them
 --     RoomEnough           "no allocation is refused for want of room", where calls ask for one block at most
 --     Margin               the free count after every call is at least M - K - 2N there
@@ -22,20 +22,19 @@ use lib.ListN.{length}
 use Rattle.machine.specs.Rounding.{roundedUp}
 use Rattle.machine.specs.Registers.{idle}
 use Rattle.machine.specs.Colouring.{isAllocated}
-use Rattle.machine.specs.Heap.{Heap}
+use Rattle.machine.specs.Heap.{Heap, colouring}
 use Rattle.machine.specs.Audit.{countFrom}
 use Rattle.machine.specs.WellFormed.{WellFormed}
 use Rattle.machine.specs.Format.{formatted}
 use Rattle.machine.specs.Session.{Call, does, session}
-use Rattle.machine.specs.Session.Call.{Format, Read, Look, StoreNumber, StoreReference, SetRoot, Allocate, Work, Audit}
-use Rattle.machine.specs.Session.Call.{AllocateChain, ReadField, StoreFieldNumber, StoreFieldReference}
+use Rattle.machine.specs.Session.Call.{Allocate, AllocateChain}
 use Rattle.theory_promises.specs.Reachable.{Reachable}
 use Rattle.theory_promises.specs.Deeds.{Deed, aUnit, deed, after}
 use Rattle.theory_promises.specs.Plans.{deeds, asks}
 use Rattle.theory_promises.specs.Sessions.{NoReset, sessionDeeds, Proper, NoBegin, unitsIn, marksIn}
 
 abbrev pub allocatedBlocks : Heap → ℕ
-allocatedBlocks h = countFrom (isAllocated (h .regs .blocks) (h .colours)) (h .regs .blocks) 2
+allocatedBlocks h = countFrom (isAllocated (colouring h)) (h .regs .blocks) 2
 
 -- the deeds ys follow the unit that starts a cycle, after the deeds xs, and start none themselves: the cycle still runs, or has just
 -- ended; its units are counted over all the calls that do them
@@ -103,19 +102,7 @@ MarginAsRead =
 
 -- Allocate chain alone may ask for more
 abbrev pub Single : Call → Type 0
-Single (Format m u) = Unit {0}
-Single (Read b w) = Unit {0}
-Single (Look b) = Unit {0}
-Single (StoreNumber b w v) = Unit {0}
-Single (StoreReference b w t) = Unit {0}
-Single (SetRoot t) = Unit {0}
-Single (Allocate b w) = Unit {0}
-Single (AllocateChain b w n) = n ≤ 1
-Single (ReadField b k) = Unit {0}
-Single (StoreFieldNumber b k v) = Unit {0}
-Single (StoreFieldReference b k t) = Unit {0}
-Single (Work n) = Unit {0}
-Single Audit = Unit {0}
+Single c = (b w n : ℕ) → c ≡ AllocateChain b w n → n ≤ 1
 
 abbrev pub Singles : List Call → Type 0
 Singles [] = Unit {0}

@@ -5,6 +5,7 @@ pub mod Plans
 pub mod Known
 pub mod Objects
 pub mod Sessions
+pub mod Told
 pub mod Demand2
 pub mod Demand3
 pub mod View

@@ -29,7 +29,7 @@ use Rattle.machine.specs.Field.{fieldBlock, fieldRefusal, fieldStoreRefusal}
 use Rattle.machine.specs.Work.{countRefusal}
 use Rattle.machine.specs.Session.{Call}
 use Rattle.machine.specs.Session.Call.{Format, Read, Look, StoreNumber, StoreReference, SetRoot, Allocate, Work, Audit}
-use Rattle.machine.specs.Session.Call.{AllocateChain, ReadField, StoreFieldNumber, StoreFieldReference}
+use Rattle.machine.specs.Session.Call.{AllocateChain, ReadField, StoreFieldNumber, StoreFieldReference, State}
 use Rattle.theory_promises.specs.Deeds.{Act, aNumber, aReference, aRoot, aTake, Deed, aUnit, anAct, after}
 
 pub record Plan : Type 0 where
@@ -91,6 +91,7 @@ plan (StoreFieldNumber b k v) h = actUnless (fieldRefusal b k h) (aNumber (field
 plan (StoreFieldReference b k t) h = actUnless (fieldStoreRefusal b k t h) (aReference (fieldBlock (k / 7) b h) (k % 7) t)
 plan (Work n) h = unitsUnless (entry h ▷ countRefusal n) 0 n (λ k. []) h
 plan Audit h = nothing 0
+plan (State b) h = nothing 0
 
 abbrev pub workedBy : Plan → Heap → Heap
 workedBy p h = after (replicate (p .units) aUnit) h

@@ -13,15 +13,15 @@ use Rattle.machine.specs.declared.Colour.{Colour}
 use Rattle.machine.specs.declared.Colour.the-variants.{White, Grey, Black, Free, Outside}
 use Rattle.machine.specs.Tests.{if_then_else_}
 use Rattle.machine.specs.Block.{wordOf, byteOf, bit}
-use Rattle.machine.specs.Colouring.{colourWord}
-use Rattle.machine.specs.Heap.{Heap, colourOf}
+use Rattle.machine.specs.Colouring.{GreysOf}
+use Rattle.machine.specs.Heap.{Heap, colouring, colourOf}
 use Rattle.machine.specs.WellFormed.{Block, Coloured, Exactly, LaidOut}
 use Rattle.machine.specs.Ready.{Ready}
 use Rattle.theory_moves.specs.Tints.{Tint}
 use Rattle.theory_moves.specs.Heaps.{Abs}
 use Rattle.theory_moves.specs.Tints as tints
 
--- a colour word outside the layout is on no block of a well-formed heap, so what it is seen as does not matter
+-- a colour outside the layout is on no block of a well-formed heap, so what it is seen as does not matter
 abbrev pub tintOf : Colour → Tint
 tintOf White = tints.White
 tintOf Grey = tints.Grey
@@ -43,7 +43,7 @@ view h =
 pub record Shape (h : Heap) : Type 0 where
   pub ready : Ready h
   pub colours : (b : ℕ) → Block (h .regs .blocks) b → colourOf h b ≢ Outside
-  pub greys : Exactly (Coloured h Grey) (colourWord (h .colours)) 1 (h .regs .grey)
+  pub greys : GreysOf (colouring h)
   pub frees : Exactly (Coloured h Free) (λ b. wordOf (h .words) b 0) 0 (h .regs .free)
   pub laid : (b : ℕ) → Coloured h Free b → LaidOut h b
   pub counted : length (frees .blocks) ≡ h .regs .count

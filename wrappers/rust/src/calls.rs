@@ -73,6 +73,8 @@ seeing! {
     read_field = dergamoyne_read_field(b, k) -> ReadAnswer;
     /// Look: where the eight words of the block b stand.
     look = dergamoyne_look(b) -> LookAnswer;
+    /// State: what the number b is. The value is 1 live white, 2 doomed, 3 grey, 4 black, 5 free, 6 outside the layout.
+    state = dergamoyne_state(b) -> Answer;
     /// Audit: the value is 1 for a well-formed heap, else 0.
     audit = dergamoyne_audit() -> Answer;
 }

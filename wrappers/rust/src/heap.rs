@@ -2,6 +2,7 @@
 use crate::calls;
 use crate::raw::{Answer, ExportAnswer, ReadAnswer, Regs};
 use crate::refusal::{Refusal, Refused};
+use std::fmt;
 
 /// The largest M.
 const MOST_BLOCKS: u32 = 16384;
@@ -28,6 +29,49 @@ pub enum Word {
 pub struct Allocated {
     pub block: u32,
     pub units: u32,
+}
+
+/// What a number is to a call, with the number by which the library tells it.
+#[derive(Clone, Copy, Debug, PartialEq, Eq)]
+pub enum State {
+    /// Allocated; not met by the collector in this cycle, or swept already.
+    LiveWhite = 1,
+    /// Allocated, but the sweep is about to free it: calls refuse it.
+    Doomed = 2,
+    /// Allocated; met by the collector, its references not yet.
+    Grey = 3,
+    /// Allocated; met by the collector, and its references too; or new.
+    Black = 4,
+    /// Not allocated: calls refuse it.
+    Free = 5,
+    /// No block; or, where something else wrote to the buffers, a block whose colour can't be.
+    Outside = 6,
+}
+
+impl State {
+    /// The state that `calls::state` tells by this number. Another number is none of the library's, and panics.
+    pub fn of(number: u32) -> State {
+        use State::*;
+        [LiveWhite, Doomed, Grey, Black, Free, Outside][number as usize - 1]
+    }
+
+    /// Whether it is an allocated block that isn't doomed: one that calls take.
+    pub fn is_live(self) -> bool {
+        matches!(self, State::LiveWhite | State::Grey | State::Black)
+    }
+}
+
+impl fmt::Display for State {
+    fn fmt(&self, f: &mut fmt::Formatter<'_>) -> fmt::Result {
+        f.write_str(match self {
+            State::LiveWhite => "live white",
+            State::Doomed => "doomed",
+            State::Grey => "grey",
+            State::Black => "black",
+            State::Free => "free",
+            State::Outside => "outside the layout",
+        })
+    }
 }
 
 /// What an export answers: complete with so many rows; or stopped after so many, for this reason.
@@ -114,6 +158,11 @@ impl Heap {
         let a = calls::look(self.regs, &self.words, &self.colours, &self.bytes, b);
         Refused::unless_zero(a.refusal, 0)?;
         Ok(&self.words[a.at as usize..a.at as usize + 8])
+    }
+
+    /// What the number b is at this moment; any number is taken.
+    pub fn state(&self, b: u32) -> Result<State, Refused> {
+        Ok(State::of(done(calls::state(self.regs, &self.words, &self.colours, &self.bytes, b))?.value))
     }
 
     /// Word w of the block b becomes the number v.

@@ -55,7 +55,7 @@ pub struct ExportAnswer {
 }
 
 /// The version of the library that this crate is for, as `dergamoyne_version` gives it.
-pub const VERSION: u32 = 3002;
+pub const VERSION: u32 = 4000;
 
 // The library is for processors with lengths of 64 bits.
 const _: () = assert!(std::mem::size_of::<usize>() == 8);
@@ -95,6 +95,16 @@ extern "C" {
         bytes_length: usize,
         b: u32,
     ) -> LookAnswer;
+    pub fn dergamoyne_state(
+        regs: Regs,
+        words: *const u32,
+        words_length: usize,
+        colours: *const u32,
+        colours_length: usize,
+        bytes: *const u8,
+        bytes_length: usize,
+        b: u32,
+    ) -> Answer;
     pub fn dergamoyne_store_number(
         regs: *mut Regs,
         words: *mut u32,

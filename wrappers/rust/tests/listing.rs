@@ -1,5 +1,5 @@
 //! Document 01's listing, its refusals, the exports, and an object longer than a block, by `Heap` and by the calls over slices.
-use dergamoyne::{calls, Allocated, Exported, Heap, Reason, Refusal, Refused, Regs, Word};
+use dergamoyne::{calls, Allocated, Exported, Heap, Reason, Refusal, Refused, Regs, State, Word};
 
 fn by(refusal: Refusal) -> Refused {
     Refused { refusal, units: 0 }
@@ -95,6 +95,34 @@ fn look_and_numbers() {
     assert_eq!(h.look(3), Err(by(Refusal::BlockGone)));
 }
 
+/// Each state, on the listing's heap and on a damaged one; of any number.
+#[test]
+fn states() {
+    let mut h = Heap::new(3, 1).unwrap();
+    assert_eq!(h.state(2), Ok(State::Free));
+    h.allocate(0, 0).unwrap();
+    assert_eq!(h.state(2), Ok(State::Black));
+    let mut h = seven_lines();
+    let found: Vec<_> = [0, 1, 2, 3, 4, 5, u32::MAX].map(|b| h.state(b).unwrap()).into();
+    let (outside, none) = (State::Outside, State::Free);
+    assert_eq!(found, [outside, outside, State::LiveWhite, State::Doomed, none, outside, outside]);
+    assert_eq!(found.iter().filter(|s| s.is_live()).count(), 1);
+    h.work(3).unwrap();
+    assert_eq!((h.state(2), h.state(3)), (Ok(State::Grey), Ok(State::Free)));
+    let (regs, words, bytes) = (h.regs(), [0; 24], [0; 3]);
+    let told = |regs, colours: &[u32]| {
+        let a = calls::state(regs, &words, colours, &bytes, 3);
+        (a.refusal, a.value, a.units)
+    };
+    assert_eq!(told(regs, &[3, 1, 0]), (0, State::Grey as u32, 0));
+    assert_eq!(told(regs, &[0, 5, 0]), (0, State::Outside as u32, 0));
+    assert_eq!(told(regs, &[0, 5]), (1, 0, 0));
+    assert_eq!(told(Regs { phase: 3, ..regs }, &[0, 5, 0]), (2, 0, 0));
+    for n in 1..7 {
+        assert_eq!(State::of(n) as u32, n);
+    }
+}
+
 /// The list 2, 3 by the links in word 0, complete and not.
 #[test]
 fn exports() {
@@ -187,6 +215,6 @@ fn threads() {
 /// The library is the one that the crate is for.
 #[test]
 fn version() {
-    assert_eq!(calls::version(), 3002);
+    assert_eq!(calls::version(), 4000);
     assert!(calls::fits_library());
 }

@@ -4,7 +4,8 @@ use mathlib.Core.Path.{refl}
 use Rattle.machine.specs.Field.{fieldStoreRefusal}
 use Rattle.machine.proofs.Tests.{so}
 use Rattle.machine.proofs.Storing.{word-writable}
-use Rattle.machine.proofs.Refusals.{stops, passes, target-within}
+use Rattle.machine.proofs.Entering.{none-or-block}
+use Rattle.machine.proofs.Refusals.{stops, passes, target-zero}
 use Rattle.machine.proofs.Fields.{field-storable, field-target, field-reference-refused, field-reference-stored}
 use Rattle.part_field.proofs.Walking.{walked-block}
 use Rattle.call_field.proofs.Starting.{start-stops, start-passes, start-ready}
@@ -103,7 +104,7 @@ target-refusal-requires c κs =
     let c-target-place = c .before .before .before .before .before .before .before .before .before .before .before .target-place in
     let c-if2 = c .before .before .before .before .before .before .before .before .before .before .if2 in
     let d = start-ready _ _ _ (c-start-refusal .ensures) (c-if1 .left) .0 in
-    (d .most, target-within _ (d .colours) (so (c-target-place .ensures) (c-if2 .left)))
+    (d .most, d .colours, none-or-block _ _ (target-zero _ _ (so (c-target-place .ensures) (c-if2 .left))))
 
 refused-requires-4 : tie.Need-refused-requires-4
 refused-requires-4 c κs = search needs

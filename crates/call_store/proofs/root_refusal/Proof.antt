@@ -1,8 +1,8 @@
 -- `call_store::root_refusal` meets its contract: the first test that refuses. Assumes nothing.
 use mathlib.Core.Path.{refl}
 use Rattle.machine.proofs.Tests.{so}
-use Rattle.machine.proofs.Entering.{entry-ready}
-use Rattle.machine.proofs.Refusals.{stops, passes, target-within}
+use Rattle.machine.proofs.Entering.{entry-ready, none-or-block}
+use Rattle.machine.proofs.Refusals.{stops, passes, target-zero}
 use Rattle.machine.specs.Store.{rootRefusal}
 use borrow.Author.Needs.{needs}
 use Rattle.call_store.proofs.root_refusal.Statement.{statement}
@@ -29,7 +29,7 @@ target-refusal-requires : tie.Need-target-refusal-requires
 target-refusal-requires c κs =
     let c-entry = c .before .before .before .entry in
     let c-if1 = c .before .before .if1 in
-    let d = entry-ready _ (so (c-entry .ensures) (c-if1 .left)) in (d .most, target-within _ (d .colours) (so (c .before .target-place .ensures) (c .if2 .left)))
+    let d = entry-ready _ (so (c-entry .ensures) (c-if1 .left)) in (d .most, d .colours, none-or-block _ _ (target-zero _ _ (so (c .before .target-place .ensures) (c .if2 .left))))
 
 returns-3 : tie.Need-returns-3
 unfolding rootRefusal

@@ -1,9 +1,8 @@
 -- `call_store::store_refusal` meets its contract: the first test that refuses. Assumes nothing.
 use mathlib.Core.Path.{refl}
 use Rattle.machine.proofs.Tests.{so}
-use Rattle.machine.proofs.Entering.{entry-ready}
-use Rattle.machine.proofs.Refusals.{stops, passes, word-zero, target-within}
-use Rattle.machine.proofs.Blocks.{block-within, block-isBlock}
+use Rattle.machine.proofs.Entering.{entry-ready, none-or-block}
+use Rattle.machine.proofs.Refusals.{stops, passes, word-zero, target-zero}
 use Rattle.machine.specs.Store.{storeRefusal}
 use borrow.Author.Needs.{needs}
 use Rattle.call_store.proofs.store_refusal.Statement.{statement}
@@ -47,7 +46,8 @@ holder-refusal-requires c κs =
     let c-if1 = c .before .before .before .before .if1 in
     let c-word-refusal = c .before .before .before .word-refusal in
     let c-if2 = c .before .before .if2 in
-    let d = entry-ready _ (so (c-entry .ensures) (c-if1 .left)) in (d .most, block-within (d .colours) (block-isBlock _ _ (word-zero _ _ _ (so (c-word-refusal .ensures) (c-if2 .left)) .0)))
+    let d = entry-ready _ (so (c-entry .ensures) (c-if1 .left)) in
+    (d .most, d .colours, word-zero _ _ _ (so (c-word-refusal .ensures) (c-if2 .left)) .0)
 
 returns-4 : tie.Need-returns-4
 unfolding storeRefusal
@@ -66,7 +66,8 @@ target-refusal-requires c κs =
     let c-if1 = c .before .before .before .before .before .before .if1 in
     let c-target-place = c .before .before .before .target-place in
     let c-if3 = c .before .before .if3 in
-    let d = entry-ready _ (so (c-entry .ensures) (c-if1 .left)) in (d .most, target-within _ (d .colours) (so (c-target-place .ensures) (c-if3 .left)))
+    let d = entry-ready _ (so (c-entry .ensures) (c-if1 .left)) in
+    (d .most, d .colours, none-or-block _ _ (target-zero _ _ (so (c-target-place .ensures) (c-if3 .left))))
 
 returns-5 : tie.Need-returns-5
 unfolding storeRefusal

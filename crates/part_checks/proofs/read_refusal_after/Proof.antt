@@ -3,7 +3,6 @@ use mathlib.Core.Path.{refl}
 use Rattle.machine.proofs.Tests.{so}
 use Rattle.machine.proofs.Refusals.{stops, passes, word-zero}
 use Rattle.machine.proofs.Entering.{entry-ready}
-use Rattle.machine.proofs.Blocks.{block-within, block-isBlock}
 use Rattle.machine.specs.Read.{readRefusal}
 use Rattle.part_checks.proofs.read_refusal_after.Statement.{statement}
 use Rattle.part_checks.proofs.read_refusal_after.Tie as tie
@@ -25,7 +24,7 @@ holder-refusal-requires : tie.Need-holder-refusal-requires
 holder-refusal-requires c κs =
     let c-pre = c .before .before .before .before .before .before .pre in
     let d = entry-ready _ (so c-pre (c .before .before .if1 .left)) in
-    (d .most, block-within (d .colours) (block-isBlock _ _ (word-zero _ _ _ (so (c .before .word-refusal .ensures) (c .if2 .left)) .0)))
+    (d .most, d .colours, word-zero _ _ _ (so (c .before .word-refusal .ensures) (c .if2 .left)) .0)
 
 returns-3 : tie.Need-returns-3
 unfolding readRefusal

@@ -4,16 +4,16 @@ use borrow.Author.Needs.{needs}
 use Rattle.part_colours.proofs.to_grey.Statement.{statement}
 use Rattle.part_colours.proofs.to_grey.Tie as tie
 
-paint-requires : tie.Need-paint-requires
-paint-requires c κs = search needs
+set-word-requires : tie.Need-set-word-requires
+set-word-requires c κs = search needs
 
 same-length : tie.Need-same-length
 same-length c = search needs
 
 returns : tie.Need-returns
 returns c =
-    let c-paint = c .before .before .paint in
-    rw (c-paint .ensures) refl
+    let c-set-word = c .before .before .set-word in
+    λ m. rw (c-set-word .ensures) refl
 
 pub to-grey-spec : {M : Type 1} → statement M
-to-grey-spec = tie.close (tie.spec paint-requires same-length returns)
+to-grey-spec = tie.close (tie.spec set-word-requires same-length returns)

@@ -13,12 +13,12 @@ walk-frees-requires c κs = search needs
 returns : tie.Need-returns
 returns c =
     let c-count-frees = c .before .before .before .count-frees in
-    frees-as _ _ _ _ (c-count-frees .ensures) _ (c .before .if1 .taken) (c .walk-frees .ensures)
+    frees-as _ _ _ _ (c-count-frees .ensures _) _ (c .before .if1 .taken) (c .walk-frees .ensures)
 
 returns-2 : tie.Need-returns-2
 returns-2 c =
     let c-count-frees = c .before .before .count-frees in
-    frees-no _ _ _ _ (c-count-frees .ensures) (c .if1 .left)
+    frees-no _ _ _ _ (c-count-frees .ensures _) (c .if1 .left)
 
 pub frees-pass-spec : {M : Type 1} → statement M
 frees-pass-spec = tie.close (tie.spec count-frees-requires walk-frees-requires returns returns-2)

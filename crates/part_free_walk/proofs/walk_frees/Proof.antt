@@ -5,18 +5,19 @@ use Prim.Native.Nat.{_-_}
 use mathlib.Core.Path.{_≡_, refl}
 use Rattle.machine.proofs.Tests.{so}
 use Rattle.machine.specs.Block.{wordOf}
-use Rattle.machine.specs.Audit.{walk, isFree}
-use Rattle.machine.proofs.Blocks.{isBlock-block}
+use Rattle.machine.specs.Lists.{walk}
+use Rattle.machine.specs.Colouring.{coloured, isFree}
 use Rattle.machine.proofs.Passing.{free-block, first-word}
 use Rattle.machine.proofs.Audits.{walk-on, walk-off, walk-end}
 use Rattle.part_free_walk.proofs.walk_frees.Statement.{statement}
 use Rattle.part_free_walk.proofs.walk_frees.Tie as tie
 
 abbrev Inv-loop : tie.InvT-loop
-Inv-loop m words colours head n a₀ left₀ a left = walk (isFree m colours) (λ b. wordOf words b 0) 0 n head ≡ walk (isFree m colours) (λ b. wordOf words b 0) 0 left a
+Inv-loop r words colours a₀ left₀ a left =
+    walk (isFree (coloured (r .blocks) (r .grey) colours)) (λ b. wordOf words b 0) 0 (r .count) (r .free) ≡ walk (isFree (coloured (r .blocks) (r .grey) colours)) (λ b. wordOf words b 0) 0 left a
 
 abbrev μ-loop : tie.MeasureT-loop
-μ-loop m words colours head n a₀ left₀ a left = left
+μ-loop r words colours a₀ left₀ a left = left
 
 loop-holds : tie.Need-loop-holds Inv-loop μ-loop
 loop-holds c = refl
@@ -26,24 +27,29 @@ is-free-requires c κs = search needs
 
 cast-at : tie.Need-cast-at Inv-loop μ-loop
 cast-at c =
-    let k = isBlock-block _ _ (free-block _ _ _ (so (c .before .is-free .ensures) (c .if1 .taken))) in search needs
+    let c-args = c .before .before .before .before .before .before .args in
+    let k = free-block (coloured (c-args .r .blocks) (c-args .r .grey) (c-args .colours .now)) _ (so (c .before .is-free .ensures _) (c .if1 .taken)) in search needs
 
 sub-at : tie.Need-sub-at Inv-loop μ-loop
 sub-at c =
-    let k = isBlock-block _ _ (free-block _ _ _ (so (c .before .is-free .ensures) (c .if1 .taken))) in search needs
+    let c-args = c .before .before .before .before .before .before .args in
+    let k = free-block (coloured (c-args .r .blocks) (c-args .r .grey) (c-args .colours .now)) _ (so (c .before .is-free .ensures _) (c .if1 .taken)) in search needs
 
 mul-at : tie.Need-mul-at Inv-loop μ-loop
 mul-at c =
-    let k = isBlock-block _ _ (free-block _ _ _ (so (c .before .is-free .ensures) (c .if1 .taken))) in search needs
+    let c-args = c .before .before .before .before .before .before .args in
+    let k = free-block (coloured (c-args .r .blocks) (c-args .r .grey) (c-args .colours .now)) _ (so (c .before .is-free .ensures _) (c .if1 .taken)) in search needs
 
 mul-a : tie.Need-mul-a Inv-loop μ-loop
 mul-a c =
-    let k = isBlock-block _ _ (free-block _ _ _ (so (c .before .is-free .ensures) (c .if1 .taken))) in search needs
+    let c-args = c .before .before .before .before .before .before .args in
+    let k = free-block (coloured (c-args .r .blocks) (c-args .r .grey) (c-args .colours .now)) _ (so (c .before .is-free .ensures _) (c .if1 .taken)) in search needs
 
 shared-slice-read-a : tie.Need-shared-slice-read-a Inv-loop μ-loop
 shared-slice-read-a c =
     let c-is-free = c .before .before .is-free in
-    let k = isBlock-block _ _ (free-block _ _ _ (so (c-is-free .ensures) (c .before .if1 .taken))) in search needs
+    let c-args = c .before .before .before .before .before .before .before .args in
+    let k = free-block (coloured (c-args .r .blocks) (c-args .r .grey) (c-args .colours .now)) _ (so (c-is-free .ensures _) (c .before .if1 .taken)) in search needs
 
 sub-left : tie.Need-sub-left Inv-loop μ-loop
 sub-left c = search needs
@@ -56,12 +62,12 @@ loop-again c =
     let c-loop = c .before .before .before .before .loop in
     let c-is-free = c .before .before .is-free in
     let c-args = c .before .before .before .before .before .before .before .args in
-    walk-on _ _ _ _ _ _ (c-loop .inv) _ _ (omega arith) (so (c-is-free .ensures) (c .before .if1 .taken)) (first-word (c-args .words .now) (c-loop .a))
+    walk-on _ _ _ _ _ _ (c-loop .inv) _ _ (omega arith) (so (c-is-free .ensures _) (c .before .if1 .taken)) (first-word (c-args .words .now) (c-loop .a))
 
 returns : tie.Need-returns Inv-loop μ-loop
 returns c =
     let c-loop = c .before .before .before .loop in
-    walk-off _ _ _ _ _ _ (c-loop .inv) (c-loop .left - 1) (omega arith) (so (c .before .is-free .ensures) (c .if1 .left))
+    walk-off _ _ _ _ _ _ (c-loop .inv) (c-loop .left - 1) (omega arith) (so (c .before .is-free .ensures _) (c .if1 .left))
 
 returns-2 : tie.Need-returns-2 Inv-loop μ-loop
 returns-2 c = walk-end _ _ _ _ _ _ (c .before .loop .inv) (omega arith)

@@ -1,10 +1,10 @@
 -- `part_mark::grey_all` meets its contract: what is greyed is what remains to be greyed. Assumes nothing.
-use Prim.Native.Nat.{_<_}
+use Prim.Native.Nat.{ℕ, _<_}
 use mathlib.Core.Path.{_≡_, refl, sym, _∙_}
 use native.Mathlib.Omega.{arith}
 use lib.ListN.{length}
 use Rattle.machine.specs.Block.{references}
-use Rattle.machine.specs.Colouring.{greyAll}
+use Rattle.machine.specs.Colouring.{coloured, greyAll, CellsFit}
 use Rattle.machine.specs.Seen.{Named}
 use Rattle.machine.proofs.Blocks.{block-as}
 use Rattle.machine.proofs.LowestBit.{lowest-within, lowest-sub, lowest-less}
@@ -16,13 +16,13 @@ use Rattle.part_mark.proofs.grey_all.Tie as tie
 abbrev Inv-loop : tie.InvT-loop
 Inv-loop head colours₀ part bits g₀ rest₀ colours g rest =
     (rest < 256) × (length colours ≡ length colours₀) × Named (length colours₀) (references part rest)
-    × (greyAll (length colours₀) (references part bits) (record { head = head; cells = colours₀ }) ≡ greyAll (length colours₀) (references part rest) (record { head = g; cells = colours }))
+    × ((m : ℕ) → CellsFit m colours₀ → greyAll (references part bits) (coloured m head colours₀) ≡ greyAll (references part rest) (coloured m g colours))
 
 abbrev μ-loop : tie.MeasureT-loop
 μ-loop head colours₀ part bits g₀ rest₀ colours g rest = rest
 
 loop-holds : tie.Need-loop-holds Inv-loop μ-loop
-loop-holds c = let c-pre = c .before .before .pre in (c-pre .0, refl, c-pre .2, refl)
+loop-holds c = let c-pre = c .before .before .pre in (c-pre .0, refl, c-pre .2, λ m e. refl)
 
 cast-grey-white : tie.Need-cast-grey-white Inv-loop μ-loop
 cast-grey-white c = let l = lowest-within _ _ (c .before .before .loop .inv .0) (c .before .loop-test .taken) refl in search needs
@@ -66,14 +66,14 @@ loop-again c =
       omega arith,
       c-grey-white .kept .1 .0 ∙ c-loop .inv .1,
       named-on (c-args .part .now) _ _ f n refl _ (c-loop .inv .2),
-      c-loop .inv .3 ∙ grey-on (c-args .part .now) _ _ f n refl _ _ (rw (← c-loop .inv .1) (c-grey-white .ensures)),
+      λ m e. c-loop .inv .3 m e ∙ grey-on (c-args .part .now) _ _ f n refl _ (c-grey-white .ensures m (c-loop .inv .1 ∙ e)),
     )
 
 same-length : tie.Need-same-length Inv-loop μ-loop
 same-length c = c .before .loop .inv .1
 
 returns : tie.Need-returns Inv-loop μ-loop
-returns c = grey-end _ _ (c .loop-test .left) _ _ ∙ sym (c .before .loop .inv .3)
+returns c = λ m e. grey-end _ _ (c .loop-test .left) _ ∙ sym (c .before .loop .inv .3 m e)
 
 pub grey-all-spec : {M : Type 1} → statement M
 grey-all-spec =

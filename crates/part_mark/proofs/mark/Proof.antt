@@ -1,6 +1,7 @@
 -- `part_mark::mark` meets its contract: a law of marking for each way out. Assumes nothing.
 use mathlib.Core.Path.{refl, _∙_}
 use native.Mathlib.Omega.{arith}
+use Rattle.machine.specs.Colouring.{coloured}
 use Rattle.machine.proofs.Parts.{part-is}
 use Rattle.machine.proofs.Seeing.{darker-black}
 use Rattle.machine.proofs.Marking.{mark-done, mark-damaged}
@@ -51,7 +52,7 @@ same-length c = refl
 returns : tie.Need-returns
 returns c =
     let c-args = c .before .before .before .before .before .before .before .before .before .before .args in
-    mark-damaged (c-args .r) (c-args .words .now) (c-args .colours .now) (c-args .bytes .now) _ (part-is _ _) (looked-damaged _ _ (c .before .before .seen-all .ensures) (c .enum-told .given .1))
+    mark-damaged (c-args .r) (c-args .words .now) (c-args .colours .now) (c-args .bytes .now) _ (part-is _ _) (looked-damaged _ _ (c .before .before .seen-all .ensures _) (c .enum-told .given .1))
 
 to-black-requires : tie.Need-to-black-requires
 to-black-requires c κs = search needs
@@ -78,7 +79,7 @@ grey-all-requires c κs =
     let c-seen-all = c .before .before .before .before .before .before .before .before .before .seen-all in
     let c-white = c .before .before .before .before .before .before .before .white in
     let c-to-black = c .before .before .before .before .to-black in
-    let (f, n) = whites-ask _ (c-args .colours .now) _ _ _ _ (c-seen-all .ensures) (c-white .given .1) (c-to-black .kept .1 .0 ∙ c-pre .0 .colours) in
+    let (f, n) = whites-ask (coloured (c-args .r .blocks) (c-args .r .grey) (c-args .colours .now)) _ _ _ _ (c-seen-all .ensures _) (c-white .given .1) (c-to-black .kept .1 .0 ∙ c-pre .0 .colours) in
     (f, omega arith, n)
 
 with-grey-requires : tie.Need-with-grey-requires
@@ -95,10 +96,10 @@ returns-2 c =
     let c-white = c .before .before .before .before .before .before .before .before .before .before .before .white in
     let c-to-black = c .before .before .before .before .before .before .before .before .to-black in
     let c-grey-all = c .before .before .before .grey-all in
-    let (s, q) = looked-whites _ _ (c-seen-all .ensures) (c-white .given .1) in
+    let (s, q) = looked-whites _ _ (c-seen-all .ensures (c-args .r .grey)) (c-white .given .1) in
     let m = c-to-black .kept .1 .0 ∙ c-pre .0 .colours in
-    mark-done (c-args .r) (c-args .words .now) (c-args .colours .now) (c-args .bytes .now) _ (part-is _ _) m s (c-to-black .ensures)
-    (c-grey-all .ensures ∙ greyed-as _ (c-args .colours .now) _ _ _ _ (c-args .r .grey) _ m q (omega arith) (c-to-black .ensures)) (c .with-grey .ensures)
+    mark-done (c-args .r) (c-args .words .now) (c-args .colours .now) (c-args .bytes .now) _ (part-is _ _) s (c-to-black .ensures _)
+    (c-grey-all .ensures _ m ∙ greyed-as (coloured (c-args .r .blocks) (c-args .r .grey) (c-args .colours .now)) _ _ _ _ q (omega arith) (c-to-black .ensures _)) (c .with-grey .ensures)
 
 pub mark-spec : {M : Type 1} → statement M
 mark-spec =

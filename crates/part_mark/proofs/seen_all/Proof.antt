@@ -3,6 +3,7 @@ use Prim.Native.Nat.{ℕ, _+_, _<_}
 use mathlib.Core.Path.{_≡_, refl, sym, _∙_}
 use mathlib.Core.Logic.{⊎-elim}
 use native.Mathlib.Omega.{arith}
+use Rattle.machine.specs.Colouring.{coloured}
 use Rattle.machine.proofs.LowestBit.{lowest-within, lowest-le, lowest-shift, lowest-sub, lowest-less}
 use Rattle.part_mark.proofs.Whites.{toCome, come-first, come-settled, come-white, come-damaged, come-end}
 use borrow.Author.Needs.{needs}
@@ -10,13 +11,13 @@ use Rattle.part_mark.proofs.seen_all.Statement.{statement}
 use Rattle.part_mark.proofs.seen_all.Tie as tie
 
 abbrev Inv-loop : tie.InvT-loop
-Inv-loop m colours part byte rest₀ white₀ rest white = (rest < 256) × (white + rest < 256) × (toCome m colours part 0 byte ≡ toCome m colours part white rest)
+Inv-loop m colours part byte rest₀ white₀ rest white = (rest < 256) × (white + rest < 256) × ((g : ℕ) → toCome (coloured m g colours) part 0 byte ≡ toCome (coloured m g colours) part white rest)
 
 abbrev μ-loop : tie.MeasureT-loop
 μ-loop m colours part byte rest₀ white₀ rest white = rest
 
 loop-holds : tie.Need-loop-holds Inv-loop μ-loop
-loop-holds c = let f = c .before .before .fits .byte .fits in (f, omega arith, refl)
+loop-holds c = let f = c .before .before .fits .byte .fits in (f, omega arith, λ g. refl)
 
 shl-bit : tie.Need-shl-bit Inv-loop μ-loop
 shl-bit c =
@@ -60,8 +61,8 @@ returns : tie.Need-returns Inv-loop μ-loop
 returns c =
     let c-loop = c .before .before .before .before .before .loop in
     let c-args = c .before .before .before .before .before .before .before .before .args in
-    come-damaged _ (c-args .colours .now) (c-args .part .now) _ _ (c-loop .inv .0) (c .before .before .before .before .loop-test .taken) refl _ (c .before .before .seen .ensures) (c-loop .white) (c .enum-told3 .given .1)
-    ∙ sym (come-first _ (c-args .colours .now) (c-args .part .now) (c-args .byte) ∙ c-loop .inv .2)
+    λ g. come-damaged (coloured (c-args .m) g (c-args .colours .now)) (c-args .part .now) _ _ (c-loop .inv .0) (c .before .before .before .before .loop-test .taken) refl _ (c .before .before .seen .ensures g) (c-loop .white) (c .enum-told3 .given .1)
+    ∙ sym (come-first (coloured (c-args .m) g (c-args .colours .now)) (c-args .part .now) (c-args .byte) ∙ c-loop .inv .2 g)
 
 sub-rest : tie.Need-sub-rest Inv-loop μ-loop
 sub-rest c =
@@ -82,15 +83,15 @@ loop-again c =
     let n = c .before .before .before .loop-test .taken in
     let l = lowest-sub _ _ (c-loop .inv .0) n refl in
     ⊎-elim
-    (λ k. rw (k .2) (omega arith, omega arith, c-loop .inv .2 ∙ come-settled _ (c-args .colours .now) (c-args .part .now) _ _ (c-loop .inv .0) n refl _ (c-seen .ensures) (c-loop .white) (k .1 .given .1)))
-    (λ k. rw (k .2) (omega arith, omega arith, c-loop .inv .2 ∙ come-white _ (c-args .colours .now) (c-args .part .now) _ _ (c-loop .inv .0) n refl _ (c-seen .ensures) (c-loop .white) (k .1 .given .1)))
+    (λ k. rw (k .2) (omega arith, omega arith, λ g. c-loop .inv .2 g ∙ come-settled (coloured (c-args .m) g (c-args .colours .now)) (c-args .part .now) _ _ (c-loop .inv .0) n refl _ (c-seen .ensures g) (c-loop .white) (k .1 .given .1)))
+    (λ k. rw (k .2) (omega arith, omega arith, λ g. c-loop .inv .2 g ∙ come-white (coloured (c-args .m) g (c-args .colours .now)) (c-args .part .now) _ _ (c-loop .inv .0) n refl _ (c-seen .ensures g) (c-loop .white) (k .1 .given .1)))
     (c .match .came)
 
 returns-2 : tie.Need-returns-2 Inv-loop μ-loop
 returns-2 c =
     let c-loop = c .before .loop in
     let c-args = c .before .before .before .before .args in
-    come-end _ (c-args .colours .now) (c-args .part .now) _ _ (c .loop-test .left) ∙ sym (come-first _ (c-args .colours .now) (c-args .part .now) (c-args .byte) ∙ c-loop .inv .2)
+    λ g. come-end (coloured (c-args .m) g (c-args .colours .now)) (c-args .part .now) _ _ (c .loop-test .left) ∙ sym (come-first (coloured (c-args .m) g (c-args .colours .now)) (c-args .part .now) (c-args .byte) ∙ c-loop .inv .2 g)
 
 pub seen-all-spec : {M : Type 1} → statement M
 seen-all-spec =

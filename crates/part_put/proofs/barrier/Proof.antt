@@ -18,7 +18,7 @@ returns : tie.Need-returns
 returns c =
     let c-pre = c .before .before .before .before .before .before .before .pre in
     let c-if1 = c .before .before .before .before .if1 in
-    λ ws bs. barrier-on _ _ _ (c-pre .0) (c-if1 .taken) (c .before .before .grey-white .ensures)
+    λ ws bs. barrier-on _ _ _ (c-if1 .taken) (c .before .before .grey-white .ensures _ (c-pre .0))
 
 returns-2 : tie.Need-returns-2
 returns-2 c = λ ws bs. barrier-off _ _ (c .if1 .left)

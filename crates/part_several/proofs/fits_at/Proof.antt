@@ -1,27 +1,19 @@
 -- `part_several::fits_at` meets its contract: a law for each way out. Assumes nothing.
 use mathlib.Core.Path.{refl}
-use Rattle.machine.proofs.Blocks.{block-as}
 use Rattle.part_several.proofs.Walks.{fits-none, fits-not-free, fits-link}
 use borrow.Author.Needs.{needs}
 use Rattle.part_several.proofs.fits_at.Statement.{statement}
 use Rattle.part_several.proofs.fits_at.Tie as tie
 
 returns : tie.Need-returns
-returns c = fits-none _ _ _ _ (c .if1 .taken)
+returns c = λ g. fits-none _ _ _ (c .if1 .taken)
 
-word-of-requires : tie.Need-word-of-requires
-word-of-requires c κs =
-    let c-pre = c .before .before .before .pre in
-    block-as (c-pre .2) (c-pre .3 (c .if1 .left))
-
-colour-requires : tie.Need-colour-requires
-colour-requires c κs = search needs
-
-free-colour-requires : tie.Need-free-colour-requires
-free-colour-requires c κs = tt
+free-at-requires : tie.Need-free-at-requires
+free-at-requires c κs =
+    let c-pre = c .before .before .before .pre in (c-pre .0, c-pre .2, c-pre .3 (c .if1 .left))
 
 sub-is-block-or-none : tie.Need-sub-is-block-or-none
-sub-is-block-or-none c = let k = c .before .before .before .before .before .before .before .pre .3 (c .before .before .before .before .if1 .left) in search needs
+sub-is-block-or-none c = let k = c .before .before .before .before .before .pre .3 (c .before .before .if1 .left) in search needs
 
 mul-is-block-or-none : tie.Need-mul-is-block-or-none
 mul-is-block-or-none c = search needs
@@ -30,31 +22,27 @@ mul-is-block-or-none-2 : tie.Need-mul-is-block-or-none-2
 mul-is-block-or-none-2 c = search needs
 
 shared-slice-read-is-block-or-none : tie.Need-shared-slice-read-is-block-or-none
-shared-slice-read-is-block-or-none c = let k = c .before .before .before .before .before .before .before .before .pre .3 (c .before .before .before .before .before .if1 .left) in search needs
+shared-slice-read-is-block-or-none c = let k = c .before .before .before .before .before .before .pre .3 (c .before .before .before .if1 .left) in search needs
 
 is-block-or-none-requires : tie.Need-is-block-or-none-requires
 is-block-or-none-requires c κs = search needs
 
 returns-2 : tie.Need-returns-2
 returns-2 c =
-    let c-if1 = c .before .before .before .before .before .before .if1 in
-    let c-word-of = c .before .before .before .before .before .word-of in
-    let c-colour = c .before .before .before .before .colour in
-    fits-link _ _ _ _ _ _ (c-if1 .left) (c-word-of .ensures) (c-colour .ensures) (c .before .before .before .free-colour .ensures) (c .before .before .if2 .taken) refl (c .is-block-or-none .ensures)
+    let c-if1 = c .before .before .before .before .if1 in
+    λ g. fits-link _ _ _ _ (c-if1 .left) (c .before .before .before .free-at .ensures g) (c .before .before .if2 .taken) refl (c .is-block-or-none .ensures)
 
 returns-3 : tie.Need-returns-3
 returns-3 c =
-    let c-if1 = c .before .before .before .before .if1 in
-    fits-not-free _ _ _ _ _ (c-if1 .left) (c .before .before .before .word-of .ensures) (c .before .before .colour .ensures) (c .before .free-colour .ensures) (c .if2 .left)
+    let c-if1 = c .before .before .if1 in
+    λ g. fits-not-free _ _ _ (c-if1 .left) (c .before .free-at .ensures g) (c .if2 .left)
 
 pub fits-at-spec : {M : Type 1} → statement M
 fits-at-spec =
     tie.close
     (tie.spec
     returns
-    word-of-requires
-    colour-requires
-    free-colour-requires
+    free-at-requires
     sub-is-block-or-none
     mul-is-block-or-none
     mul-is-block-or-none-2

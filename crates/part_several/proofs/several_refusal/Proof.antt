@@ -32,7 +32,7 @@ returns-3 c =
     let c-if1 = c .before .before .before .before .if1 in
     let c-walked = c .before .walked-to in
     let c-pre = c .before .before .before .before .before .before .before .before .pre in
-    λ bs. several-unwalked _ _ (c-head .ensures) (c-if1 .left) (c .before .before .if2 .left) (last-none _ _ (c-walked .ensures) (c-pre .3) (c-pre .4) (c .if3 .taken))
+    λ bs. several-unwalked _ _ (c-head .ensures) (c-if1 .left) (c .before .before .if2 .left) (last-none _ _ (c-walked .ensures _) (c-pre .3) (c-pre .4) (c .if3 .taken))
 
 sub-met : tie.Need-sub-met
 sub-met c = let k = c .before .before .before .before .before .before .before .before .pre .4 in omega arith
@@ -42,7 +42,7 @@ met-requires c κs =
     let c-args = c .before .before .before .before .before .before .before .before .args in
     let c-walked = c .before .walked-to in
     let c-pre = c .before .before .before .before .before .before .before .before .pre in
-    before-last (heap (c-args .r) (c-args .words .now) (c-args .colours .now) (c-args .words .now)) _ (c-walked .ensures) (c .if3 .left) (c-pre .4) (c-pre .3) (c-pre .1)
+    before-last (heap (c-args .r) (c-args .words .now) (c-args .colours .now) (c-args .words .now)) _ (c-walked .ensures _) (c .if3 .left) (c-pre .4) (c-pre .3) (c-pre .1)
 
 returns-4 : tie.Need-returns-4
 returns-4 c =
@@ -53,8 +53,8 @@ returns-4 c =
     let c-if3 = c .before .before .if3 in
     let c-pre = c .before .before .before .before .before .before .before .before .before .before .pre in
     λ bs.
-    several-repeats _ _ (c-head .ensures) (c-if1 .left) (c-if2 .left) (last-walks _ _ (c-walked .ensures) (c-if3 .left))
-    (repeats _ _ (c-walked .ensures) (c-if3 .left) (c-pre .4) (c .before .met .ensures _ _ bs) (c .if4 .taken))
+    several-repeats _ _ (c-head .ensures) (c-if1 .left) (c-if2 .left) (last-walks _ _ (c-walked .ensures _) (c-if3 .left))
+    (repeats _ _ (c-walked .ensures _) (c-if3 .left) (c-pre .4) (c .before .met .ensures _ _ bs) (c .if4 .taken))
 
 returns-5 : tie.Need-returns-5
 returns-5 c =
@@ -65,8 +65,8 @@ returns-5 c =
     let c-if3 = c .before .before .if3 in
     let c-pre = c .before .before .before .before .before .before .before .before .before .before .pre in
     λ bs.
-    several-good _ _ (c-head .ensures) (c-if1 .left) (c-if2 .left) (last-walks _ _ (c-walked .ensures) (c-if3 .left))
-    (differs _ _ (c-walked .ensures) (c-if3 .left) (c-pre .4) (c .before .met .ensures _ _ bs) (c .if4 .left))
+    several-good _ _ (c-head .ensures) (c-if1 .left) (c-if2 .left) (last-walks _ _ (c-walked .ensures _) (c-if3 .left))
+    (differs _ _ (c-walked .ensures _) (c-if3 .left) (c-pre .4) (c .before .met .ensures _ _ bs) (c .if4 .left))
 
 pub several-refusal-spec : {M : Type 1} → statement M
 several-refusal-spec =

@@ -1,6 +1,5 @@
 -- `part_several::take_several_refusal` meets its contract: a law for each way out. Assumes nothing.
 use mathlib.Core.Path.{refl}
-use Rattle.machine.proofs.Blocks.{block-as}
 use Rattle.machine.proofs.Gathering.{several-none, several-stops, several-passes}
 use borrow.Author.Needs.{needs}
 use Rattle.part_several.proofs.take_several_refusal.Statement.{statement}
@@ -17,7 +16,7 @@ returns c = λ bs. several-none _ _ _ (c .before .if1 .taken) (c .several-refusa
 holder-refusal-requires : tie.Need-holder-refusal-requires
 holder-refusal-requires c κs =
     let c-pre = c .before .before .before .pre in
-    (c-pre .0, block-as (c-pre .2) (c-pre .5 (c .if1 .left)))
+    (c-pre .0, c-pre .2, c-pre .5 (c .if1 .left))
 
 returns-2 : tie.Need-returns-2
 returns-2 c =

@@ -5,14 +5,8 @@ use borrow.Author.Needs.{needs}
 use Rattle.part_take.proofs.first_fits.Statement.{statement}
 use Rattle.part_take.proofs.first_fits.Tie as tie
 
-word-of-requires : tie.Need-word-of-requires
-word-of-requires c κs = search needs
-
-colour-requires : tie.Need-colour-requires
-colour-requires c κs = search needs
-
-free-colour-requires : tie.Need-free-colour-requires
-free-colour-requires c κs = tt
+free-at-requires : tie.Need-free-at-requires
+free-at-requires c κs = search needs
 
 cast-is-block-or-none : tie.Need-cast-is-block-or-none
 cast-is-block-or-none c = search needs
@@ -34,25 +28,18 @@ is-block-or-none-requires c κs = search needs
 
 returns : tie.Need-returns
 returns c =
-    let c-word-of = c .before .before .before .before .before .before .word-of in
-    let c-colour = c .before .before .before .before .before .colour in
-    let c-free-colour = c .before .before .before .before .free-colour in
+    let c-free-at = c .before .before .before .before .free-at in
     let c-if1 = c .before .before .before .if1 in
-    λ bs. first-link _ _ _ (c-word-of .ensures) (c-colour .ensures) (c-free-colour .ensures) (c-if1 .taken) refl (c .is-block-or-none .ensures)
+    λ bs. first-link _ _ (c-free-at .ensures _) (c-if1 .taken) refl (c .is-block-or-none .ensures)
 
 returns-2 : tie.Need-returns-2
-returns-2 c =
-    let c-word-of = c .before .before .before .word-of in
-    let c-colour = c .before .before .colour in
-    λ bs. first-not-free _ _ (c-word-of .ensures) (c-colour .ensures) (c .before .free-colour .ensures) (c .if1 .left)
+returns-2 c = λ bs. first-not-free _ (c .before .free-at .ensures _) (c .if1 .left)
 
 pub first-fits-spec : {M : Type 1} → statement M
 first-fits-spec =
     tie.close
     (tie.spec
-    word-of-requires
-    colour-requires
-    free-colour-requires
+    free-at-requires
     cast-is-block-or-none
     sub-is-block-or-none
     mul-is-block-or-none

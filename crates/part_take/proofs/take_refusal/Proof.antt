@@ -1,7 +1,6 @@
 -- `part_take::take_refusal` meets its contract. Assumes nothing.
 use mathlib.Core.Path.{refl}
 use Rattle.machine.proofs.Allocating.{take-none, take-stops, take-passes}
-use Rattle.machine.proofs.Blocks.{block-as}
 use Rattle.part_take.proofs.take_refusal.Statement.{statement}
 use Rattle.part_take.proofs.take_refusal.Tie as tie
 
@@ -16,7 +15,7 @@ returns c = λ bs. take-none _ _ (c .before .if1 .taken) (c .list-refusal .ensur
 holder-refusal-requires : tie.Need-holder-refusal-requires
 holder-refusal-requires c κs =
     let c-pre = c .before .before .before .pre in
-    (c-pre .0, block-as (c-pre .2) (c-pre .4 (c .if1 .left)))
+    (c-pre .0, c-pre .2, c-pre .4 (c .if1 .left))
 
 returns-2 : tie.Need-returns-2
 returns-2 c =

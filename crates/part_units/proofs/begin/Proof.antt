@@ -26,7 +26,7 @@ returns-2 c =
     let c-wrapping-add-u32 = c .before .before .before .before .before .before .wrapping-add-u32 in
     let c-if1 = c .before .before .before .before .if1 in
     let c-to-grey = c .before .before .to-grey in
-    λ ws bs. begin-root _ ws _ bs (c-wrapping-add-u32 .ensures) (c-if1 .left) (c-to-grey .ensures)
+    λ ws bs. begin-root _ ws _ bs (c-wrapping-add-u32 .ensures) (c-if1 .left) (c-to-grey .ensures _)
 
 pub begin-spec : {M : Type 1} → statement M
 begin-spec =

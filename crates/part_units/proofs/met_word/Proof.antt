@@ -1,4 +1,5 @@
 -- `part_units::met_word` meets its contract: the block met, by the phase. Assumes nothing.
+use Rattle.machine.specs.Colouring.{coloured}
 use Rattle.machine.proofs.Blocks.{block-as}
 use Rattle.machine.proofs.Running.{met-as, met-at, meets-root, meets-grey, meets-position}
 use Rattle.part_units.proofs.met_word.Statement.{statement}
@@ -17,18 +18,20 @@ word-of-requires c κs =
 
 returns : tie.Need-returns
 returns c =
-    met-as _ _ (c .before .before .before .args .colours .now) (meets-root _ (c .before .match .keys1)) (c .word-met .ensures)
+    let c-args = c .before .before .before .args in
+    met-as _ (coloured (c-args .r .blocks) (c-args .r .grey) (c-args .colours .now)) (meets-root _ _ (c .before .match .keys1)) (c .word-met .ensures)
 
 returns-2 : tie.Need-returns-2
 returns-2 c =
-    met-as _ _ (c .before .before .before .args .colours .now) (meets-grey _ (c .before .match .keys2)) (c .word-met2 .ensures)
+    let c-args = c .before .before .before .args in
+    met-as _ (coloured (c-args .r .blocks) (c-args .r .grey) (c-args .colours .now)) (meets-grey _ _ (c .before .match .keys2)) (c .word-met2 .ensures)
 
 returns-3 : tie.Need-returns-3
 returns-3 c =
     let i = c .before .match .rest .0 .1 in
     let k = c .before .match .rest .1 in
     let c-first = c .before .before .before in
-    met-at _ _ (c-first .args .colours .now) (meets-position _ i k) (c-first .pre .2 i k) (c .word-of .ensures)
+    met-at _ (coloured (c-first .args .r .blocks) (c-first .args .r .grey) (c-first .args .colours .now)) (meets-position _ _ i k) (c-first .pre .2 i k) (c .word-of .ensures)
 
 pub met-word-spec : {M : Type 1} → statement M
 met-word-spec =

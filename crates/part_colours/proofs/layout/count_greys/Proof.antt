@@ -3,16 +3,17 @@ use borrow.Author.Needs.{needs}
 use native.Mathlib.Omega.{arith}
 use Prim.Native.Nat.{_+_, _-_, _≤_}
 use mathlib.Core.Path.{_≡_}
-use Rattle.machine.specs.Audit.{countFrom, isGrey}
+use Rattle.machine.specs.Lists.{countFrom}
+use Rattle.machine.specs.Colouring.{coloured, isGrey}
 use Rattle.machine.proofs.Audits.{count-start, count-on, count-end, one-most}
 use Rattle.part_colours.proofs.layout.count_greys.Statement.{statement}
 use Rattle.part_colours.proofs.layout.count_greys.Tie as tie
 
 abbrev Inv-loop : tie.InvT-loop
-Inv-loop m colours n₀ b₀ n b = (2 ≤ b) × (b ≤ m + 2) × (n ≤ b) × (countFrom (isGrey m colours) m 2 ≡ n + countFrom (isGrey m colours) (m + 2 - b) b)
+Inv-loop m head colours n₀ b₀ n b = (2 ≤ b) × (b ≤ m + 2) × (n ≤ b) × (countFrom (isGrey (coloured m head colours)) m 2 ≡ n + countFrom (isGrey (coloured m head colours)) (m + 2 - b) b)
 
 abbrev μ-loop : tie.MeasureT-loop
-μ-loop m colours n₀ b₀ n b = m + 2 - b
+μ-loop m head colours n₀ b₀ n b = m + 2 - b
 
 loop-holds : tie.Need-loop-holds Inv-loop μ-loop
 loop-holds c = (search needs, search needs, search needs, count-start _ _)
@@ -38,7 +39,7 @@ loop-less c = search needs
 loop-again : tie.Need-loop-again Inv-loop μ-loop
 loop-again c =
     let c-loop = c .before .before .before .loop in
-    let k = one-most _ (c .before .is-grey .result) (c .one .ensures) in (omega arith, omega arith, omega arith, count-on _ _ _ _ _ (c-loop .inv .3) _ _ (c .before .is-grey .result) (omega arith) (c .before .is-grey .ensures) (c .one .ensures))
+    let k = one-most _ (c .before .is-grey .result) (c .one .ensures) in (omega arith, omega arith, omega arith, count-on _ _ _ _ _ (c-loop .inv .3) _ _ (c .before .is-grey .result) (omega arith) (c .before .is-grey .ensures _) (c .one .ensures))
 
 returns : tie.Need-returns Inv-loop μ-loop
 returns c = count-end _ _ _ _ _ (c .before .loop .inv .3) (omega arith)

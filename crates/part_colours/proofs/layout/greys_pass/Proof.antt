@@ -1,5 +1,6 @@
 -- `part_colours::layout::greys_pass` meets its contract. Assumes nothing.
 use mathlib.Core.Path.{refl}
+use Rattle.machine.specs.Colouring.{greysPass}
 use borrow.Author.Needs.{needs}
 use Rattle.part_colours.proofs.layout.greys_pass.Statement.{statement}
 use Rattle.part_colours.proofs.layout.greys_pass.Tie as tie
@@ -11,6 +12,7 @@ walk-greys-requires : tie.Need-walk-greys-requires
 walk-greys-requires c κs = search needs
 
 returns : tie.Need-returns
+unfolding greysPass
 returns c = rw (← c .before .count-greys .ensures) (c .walk-greys .ensures)
 
 pub greys-pass-spec : {M : Type 1} → statement M

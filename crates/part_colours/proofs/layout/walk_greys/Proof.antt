@@ -4,19 +4,20 @@ use native.Mathlib.Omega.{arith}
 use Prim.Native.Nat.{_-_}
 use mathlib.Core.Path.{_≡_, refl}
 use Rattle.machine.proofs.Tests.{so}
-use Rattle.machine.specs.Colouring.{colourWord}
-use Rattle.machine.specs.Audit.{walk, isGrey}
-use Rattle.machine.proofs.Blocks.{block-within}
+use Rattle.machine.specs.Lists.{walk}
+use Rattle.machine.specs.Colouring.{coloured, wordIn, isGrey}
+use Rattle.machine.proofs.Blocks.{block-as}
 use Rattle.machine.proofs.Passing.{grey-block}
 use Rattle.machine.proofs.Audits.{walk-on, walk-off, walk-end}
 use Rattle.part_colours.proofs.layout.walk_greys.Statement.{statement}
 use Rattle.part_colours.proofs.layout.walk_greys.Tie as tie
 
 abbrev Inv-loop : tie.InvT-loop
-Inv-loop m colours head n a₀ left₀ a left = walk (isGrey m colours) (colourWord colours) 1 n head ≡ walk (isGrey m colours) (colourWord colours) 1 left a
+Inv-loop m head colours n a₀ left₀ a left =
+    walk (isGrey (coloured m head colours)) (wordIn (coloured m head colours)) 1 n head ≡ walk (isGrey (coloured m head colours)) (wordIn (coloured m head colours)) 1 left a
 
 abbrev μ-loop : tie.MeasureT-loop
-μ-loop m colours head n a₀ left₀ a left = left
+μ-loop m head colours n a₀ left₀ a left = left
 
 loop-holds : tie.Need-loop-holds Inv-loop μ-loop
 loop-holds c = refl
@@ -27,7 +28,8 @@ is-grey-requires c κs = search needs
 word-of-requires : tie.Need-word-of-requires Inv-loop μ-loop
 word-of-requires c κs =
     let c-pre = c .before .before .before .before .before .pre in
-    block-within (c-pre .1) (grey-block _ _ _ (so (c .before .is-grey .ensures) (c .if1 .taken)))
+    let c-args = c .before .before .before .before .before .args in
+    block-as (c-pre .1) (grey-block (coloured (c-args .m) (c-args .head) (c-args .colours .now)) _ (so (c .before .is-grey .ensures _) (c .if1 .taken)))
 
 sub-left : tie.Need-sub-left Inv-loop μ-loop
 sub-left c = search needs
@@ -39,12 +41,12 @@ loop-again : tie.Need-loop-again Inv-loop μ-loop
 loop-again c =
     let c-loop = c .before .before .before .before .loop in
     let c-is-grey = c .before .before .is-grey in
-    walk-on _ _ _ _ _ _ (c-loop .inv) _ _ (omega arith) (so (c-is-grey .ensures) (c .before .if1 .taken)) (c .word-of .ensures)
+    walk-on _ _ _ _ _ _ (c-loop .inv) _ _ (omega arith) (so (c-is-grey .ensures _) (c .before .if1 .taken)) (c .word-of .ensures)
 
 returns : tie.Need-returns Inv-loop μ-loop
 returns c =
     let c-loop = c .before .before .before .loop in
-    walk-off _ _ _ _ _ _ (c-loop .inv) (c-loop .left - 1) (omega arith) (so (c .before .is-grey .ensures) (c .if1 .left))
+    walk-off _ _ _ _ _ _ (c-loop .inv) (c-loop .left - 1) (omega arith) (so (c .before .is-grey .ensures _) (c .if1 .left))
 
 returns-2 : tie.Need-returns-2 Inv-loop μ-loop
 returns-2 c = walk-end _ _ _ _ _ _ (c .before .loop .inv) (omega arith)
