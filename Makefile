@@ -1,6 +1,6 @@
 # make            proves the library and builds the archive target/staticlib/libdergamoyne.a (the first time it takes minutes)
 # make check      tests the library from C
-# make example    builds examples/c/list.c and examples/c/objects.c in target/c and runs them
+# make example    builds examples/c/list.c, examples/c/objects.c and examples/c/spare.c in target/c and runs them
 # make install    installs headers, archive, pkg-config file and manual page under PREFIX (/usr/local unless you set it); DESTDIR is put
 #                 before it
 # make uninstall  removes them again
@@ -27,6 +27,7 @@ check: $(archive)
 example: $(archive)
 	bash examples/c/run list
 	bash examples/c/run objects
+	bash examples/c/run spare
 
 target/dergamoyne.pc: docs/dergamoyne.pc.in include/dergamoyne.h Makefile
 	mkdir -p target

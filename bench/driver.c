@@ -25,6 +25,7 @@ static uint32_t m, words[8 * MOST], colours[MOST];
 static uint8_t bytes[MOST];
 enum { ROOM = 7000 };
 static uint32_t out[ROOM];
+static uint8_t image[52 + 37 * MOST];
 #define LENT words, 8 * (size_t)m, colours, m, bytes, m
 
 /* The call's name; the measure's name, NULL where a call only prepares; its units; whether this program counts. */
@@ -367,18 +368,30 @@ static void export_measures(uint32_t n)
 
 /* ---- calls of linear cost ---- */
 
+/* The image of the heap, written, and read back into the same buffers. */
+static void image_measures(const char *save_name, const char *load_name)
+{
+    size_t length = 52 + 37 * (size_t)m;
+    measure(save_name, 0);
+    after(CALL(save, MACHINE_SEEN(r), LENT, image, length).refusal);
+    measure(load_name, 0);
+    after(CALL(load, &r, LENT, image, length).refusal);
+}
+
 static void linear_measures(void)
 {
     measure("format", 0);
     after(CALL(format, &r, LENT, m, 1).refusal);
     measure("audit-free", 0);
     audit();
+    image_measures("save-free", "load-free");
     all(WHITE);
     r.root = 2;
     for (uint32_t i = 0; i < 8 * m; i++)
         refer(2 + i / 8, i % 8, 2 + i % m);
     measure("audit-8", 0);
     audit();
+    image_measures("save-8", "load-8");
 }
 
 static void calls(uint32_t size)

@@ -54,5 +54,7 @@ struct plain_answer plain_store_field_number(struct plain_regs *r, PLAIN_LENT, u
 struct plain_answer plain_store_field_reference(struct plain_regs *r, PLAIN_LENT, uint32_t b, uint32_t k, uint32_t t);
 struct plain_export_answer plain_export_objects(const struct plain_regs *r, PLAIN_SEEN, uint32_t *out, size_t out_length,
                                                 uint32_t start, uint32_t fields, uint32_t link);
+struct plain_answer plain_save(const struct plain_regs *r, PLAIN_SEEN, uint8_t *out, size_t out_length);
+struct plain_answer plain_load(struct plain_regs *r, PLAIN_LENT, const uint8_t *image, size_t image_length);
 
 #endif

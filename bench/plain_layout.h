@@ -62,4 +62,7 @@ static inline uint32_t entry(const struct plain_regs *r, size_t words_length, si
     return legal(r) ? 0 : 2;
 }
 
+/* What the audit finds out, for Save too. */
+bool plain_is_well_formed(const struct plain_regs *r, PLAIN_SEEN);
+
 #endif

@@ -102,6 +102,10 @@ END {
     block_row("Audit, a free heap", "audit-free", 33)
     block_row("Audit, eight references in every block", "audit-8")
     block_row("Format", "format", 5)
+    block_row("Save, a free heap", "save-free")
+    block_row("Save, eight references in every block", "save-8")
+    block_row("Load, a free heap", "load-free")
+    block_row("Load, eight references in every block", "load-8")
 
     print "\n### The worst Allocate, U = 10, M = 1,024\n"
     printf "| Instructions | Mean of %s | Largest of %s | The dearest call | Estimate of it, microseconds |\n", shown(calls[key("proved", "long", 1024)]), shown(calls[key("proved", "long", 1024)])

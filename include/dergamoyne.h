@@ -50,7 +50,8 @@
        bytes      M of  8 bits      1 byte  a block     which words are references: bit w of bytes[b - 2] is for word w
 
    Together with the record's 36 bytes that is 37M + 36 bytes: 37,036 for 1,000 blocks, 606,244 for 16,384. A call uses this
-   memory while it runs and keeps no pointer to it. Between calls you may move a heap, copy it, or save it and load it again.
+   memory while it runs and keeps no pointer to it. Between calls you may move a heap or copy it. To take it to another process or
+   another machine, Save writes it as one string of bytes, its image, and Load reads it back. docs/IMAGE.md has the format.
 
    Only the calls should write to this memory. Whatever it contains when a call starts, the call stays inside it and gives a
    definite answer, provided that nothing else writes to it while the call runs. If another thread, a signal handler, or another
@@ -71,8 +72,8 @@
    written through its pointer.
 
    A call can't test the following, so you have to ensure it: no pointer is null (not even with length 0), each is aligned for
-   its type, the memory behind it is as long as you say, and no two of the record, the three buffers and an export's buffer overlap.
-   Otherwise the behaviour is undefined.
+   its type, the memory behind it is as long as you say, and no two of the record, the three buffers and the buffer of an export or
+   an image overlap. Otherwise the behaviour is undefined.
 
 
    THREADS AND SIGNALS
@@ -107,11 +108,12 @@
 
    Each function of the library is proved to give exactly the answer, the record and the buffers that a short definition says,
    for all numbers and all contents of the memory that it is lent (crates/dergamoyne/src/lib.rt has the statements). On a heap
-   that Format made and only calls have changed, it is proved that nothing that can be reached is lost and that no call answers 8.
+   that Format made or Load read, and only calls have changed, it is proved that nothing that can be reached is lost and that no
+   call answers 8.
 
    This header, the way in which C passes arguments and results, and the compilers are not proved. They are tested. tests/c makes
-   more than 190,000 calls through this header, also on damaged heaps and with wrong lengths. It compares what they answer with a
-   second model's answers, and the whole heap after 52,000 of them. tests/fuzz compares millions of calls with the same machine in
+   more than 200,000 calls through this header, also on damaged heaps and with wrong lengths. It compares what they answer with a
+   second model's answers, and the whole heap after 62,000 of them. tests/fuzz compares millions of calls with the same machine in
    plain C. */
 #ifndef DERGAMOYNE_H
 #define DERGAMOYNE_H
@@ -120,8 +122,8 @@
 #include <stdint.h>
 
 /* The version: 1,000,000 for each major, 1,000 for each minor, 1 for each patch. */
-#define DERGAMOYNE_VERSION 4000u
-#define DERGAMOYNE_VERSION_TEXT "0.4.0"
+#define DERGAMOYNE_VERSION 5000u
+#define DERGAMOYNE_VERSION_TEXT "0.5.0"
 
 /* Marks a function whose answer must not be ignored: the compiler warns if it is. */
 #ifndef DERGAMOYNE_MUST_USE
@@ -148,6 +150,9 @@ enum {
     DERGAMOYNE_OBJECT_FIELDS = 1792 /* the most fields of an object */
 };
 
+/* The length in bytes of the image of a heap of m blocks. */
+#define DERGAMOYNE_IMAGE_BYTES(m) (52 + 37 * (size_t)(m))
+
 /* The index that a refused Look answers: past the end of every word buffer. */
 #define DERGAMOYNE_NO_INDEX 4294967295u
 
@@ -157,9 +162,10 @@ enum {
 enum dergamoyne_refusal {
     DERGAMOYNE_DONE = 0,           /* not refused */
     DERGAMOYNE_DOES_NOT_FIT = 1,   /* M isn't 1 to 16,384, U is above 65,535, or the lengths aren't 8M, M and M. Format tests
-                                      the M and U that it is given, every other call those of the record. So a record of
-                                      zeroes, never formatted, is refused by 1 */
-    DERGAMOYNE_REGISTERS = 2,      /* the record is not legal: something else has written to it. Format doesn't test this */
+                                      the M and U that it is given, every other call those of the record, Load neither. So a
+                                      record of zeroes, never formatted, is refused by 1 */
+    DERGAMOYNE_REGISTERS = 2,      /* the record is not legal: something else has written to it. Format and Load don't test
+                                      this; Save refuses it by 10 */
     DERGAMOYNE_TOO_MANY_UNITS = 9, /* Work: n is above 65,535 */
     DERGAMOYNE_NO_SUCH_WORD = 3,   /* the block is not 2 to M + 1, or the word is above 7. Allocate and Allocate chain also take
                                       block 0, but only with word 0. Allocate chain: n is not 1 to 256. Of fields: k is above
@@ -171,6 +177,10 @@ enum dergamoyne_refusal {
     DERGAMOYNE_BLOCK_GONE = 5,     /* the block to read or write is free or doomed */
     DERGAMOYNE_TARGET_GONE = 6,    /* the target is free or doomed */
     DERGAMOYNE_NO_FREE_BLOCK = 7,  /* Allocate: no block is free. Allocate chain: fewer than n are */
+    DERGAMOYNE_NOT_WELL_FORMED = 10, /* Save: Audit turns the heap down. Load: the bytes are not the image of a heap that Audit
+                                        accepts, or something comes after it */
+    DERGAMOYNE_OTHER_LENGTH = 13,    /* Save: the output is shorter than the image. Load: the lengths of the buffers aren't
+                                        those of the image's heap */
 
     /* Only dergamoyne_heap.h returns these. The library itself never answers them. */
     DERGAMOYNE_NO_MEMORY = 100,      /* there is no memory for the heap */
@@ -387,6 +397,24 @@ DERGAMOYNE_MUST_USE struct dergamoyne_answer dergamoyne_format(
 DERGAMOYNE_MUST_USE struct dergamoyne_answer dergamoyne_audit(
     struct dergamoyne_regs regs, const uint32_t *words, size_t words_length, const uint32_t *colours,
     size_t colours_length, const uint8_t *bytes, size_t bytes_length);
+
+/* Save: writes the image of the heap to out, DERGAMOYNE_IMAGE_BYTES(M) bytes, so that Load can read it back, also in another
+   process or on another machine. A heap can be saved at any time, also in the middle of a cycle. The bytes of out past the image
+   stay as they are. The heap and the record stay as they are. The value is 0. Refusals: 1; 10 for a heap that Audit turns down,
+   illegal registers too; 13 if out is too short. A refusal writes nothing. docs/IMAGE.md has the format. */
+DERGAMOYNE_MUST_USE struct dergamoyne_answer dergamoyne_save(
+    struct dergamoyne_regs regs, const uint32_t *words, size_t words_length, const uint32_t *colours,
+    size_t colours_length, const uint8_t *bytes, size_t bytes_length, uint8_t *out, size_t out_length);
+
+/* Load: the record and the buffers become the heap of the image, exactly as it was when it was saved: M, the pace and the state of
+   the collector too. What they held before is gone, and it isn't looked at. image_length is the whole image and nothing more. The
+   buffers must have its heap's lengths, 8M, M and M; M is (image_length - 52) / 37. The image is tested as Audit tests a heap,
+   before anything is written. It has no checksum: if its bytes were changed so that they are the image of another well-formed
+   heap, Load reads that one. The value is 0. Refusals: 10 for a bad image, 13 for buffers of other lengths. A refusal writes
+   nothing. */
+DERGAMOYNE_MUST_USE struct dergamoyne_answer dergamoyne_load(
+    struct dergamoyne_regs *regs, uint32_t *words, size_t words_length, uint32_t *colours, size_t colours_length,
+    uint8_t *bytes, size_t bytes_length, const uint8_t *image, size_t image_length);
 
 #ifdef __cplusplus
 }

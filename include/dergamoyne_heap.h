@@ -12,7 +12,8 @@
        dergamoyne_heap_close(&heap);
 
    dergamoyne.h explains the terms (block, word, reference, root, unit), what is promised, and what you have to ensure.
-   examples/c/list.c is a program that uses most of this, examples/c/objects.c one with objects longer than a block.
+   examples/c/list.c is a program that uses most of this, examples/c/objects.c one with objects longer than a block, and
+   examples/c/spare.c one that goes on in another process.
 
    HOW IT GUARDS AGAINST MISTAKES
 
@@ -72,6 +73,10 @@ static inline const char *dergamoyne_refusal_text(uint32_t refusal)
         return "the heap is damaged";
     case DERGAMOYNE_TOO_MANY_UNITS:
         return "too many units for one call";
+    case DERGAMOYNE_NOT_WELL_FORMED:
+        return "the heap is not well-formed, or the bytes are not the image of a heap that is";
+    case DERGAMOYNE_OTHER_LENGTH:
+        return "the output is too short for the image, or the buffers are not of its lengths";
     case DERGAMOYNE_NOT_A_NUMBER:
         return "the word holds a reference";
     case DERGAMOYNE_NOT_A_REFERENCE:
@@ -615,8 +620,8 @@ DERGAMOYNE_REFUSABLE dergamoyne_heap_check(const struct dergamoyne_heap *h)
     return dergamoyne_check(h->regs, DERGAMOYNE_LENT);
 }
 
-/* Goes on with a heap that was saved. `regs` is its record, and the buffers, in your own memory, have its contents. The heap is
-   tested first, as by dergamoyne_check. Refusals: 1, 2, 8, 101. */
+/* Goes on with a heap whose record and buffers you kept yourself. `regs` is its record, and the buffers, in your own memory, have
+   its contents. The heap is tested first, as by dergamoyne_check. Refusals: 1, 2, 8, 101. */
 DERGAMOYNE_REFUSABLE dergamoyne_heap_resume(struct dergamoyne_heap *h, struct dergamoyne_regs regs, uint32_t *words,
                                             size_t words_length, uint32_t *colours, size_t colours_length, uint8_t *bytes,
                                             size_t bytes_length)
@@ -627,6 +632,67 @@ DERGAMOYNE_REFUSABLE dergamoyne_heap_resume(struct dergamoyne_heap *h, struct de
         refusal = dergamoyne_check(regs, words, words_length, colours, colours_length, bytes, bytes_length);
     if (refusal == DERGAMOYNE_DONE)
         dergamoyne_heap_place_(h, regs, words, words_length, colours, colours_length, bytes, bytes_length);
+    return refusal;
+}
+
+
+/* IMAGES: a heap as one string of bytes, for a file or another machine. docs/IMAGE.md has the format; examples/c/spare.c uses it. */
+
+/* The length of the heap's image, in bytes. */
+static inline size_t dergamoyne_heap_image_bytes(const struct dergamoyne_heap *h)
+{
+    return DERGAMOYNE_IMAGE_BYTES(h->regs.blocks);
+}
+
+/* Writes the heap's image to the front of `out`. Refusals: 1, 10, 13; then nothing is written. */
+DERGAMOYNE_REFUSABLE dergamoyne_heap_save(const struct dergamoyne_heap *h, uint8_t *out, size_t out_length)
+{
+    return (enum dergamoyne_refusal)dergamoyne_save(h->regs, DERGAMOYNE_LENT, out, out_length).refusal;
+}
+
+/* An open heap becomes that of the image, which has as many blocks. What was there is gone. Refusals: 10, 13; then the heap is as it
+   was. */
+DERGAMOYNE_REFUSABLE dergamoyne_heap_load(struct dergamoyne_heap *h, const uint8_t *image, size_t image_length)
+{
+    return (enum dergamoyne_refusal)dergamoyne_load(&h->regs, DERGAMOYNE_LENT, image, image_length).refusal;
+}
+
+/* Opens the heap of an image in your own memory, as dergamoyne_heap_lend does. Refusals: 10, 13, 101. */
+DERGAMOYNE_REFUSABLE dergamoyne_heap_lend_image(struct dergamoyne_heap *h, const uint8_t *image, size_t image_length,
+                                                uint32_t *words, size_t words_length, uint32_t *colours, size_t colours_length,
+                                                uint8_t *bytes, size_t bytes_length)
+{
+    struct dergamoyne_regs regs;
+    struct dergamoyne_answer a;
+    dergamoyne_heap_none(h);
+    memset(&regs, 0, sizeof regs);
+    if (dergamoyne_heap_version_() != DERGAMOYNE_DONE)
+        return DERGAMOYNE_OTHER_VERSION;
+    a = dergamoyne_load(&regs, words, words_length, colours, colours_length, bytes, bytes_length, image, image_length);
+    if (a.refusal == DERGAMOYNE_DONE)
+        dergamoyne_heap_place_(h, regs, words, words_length, colours, colours_length, bytes, bytes_length);
+    return (enum dergamoyne_refusal)a.refusal;
+}
+
+/* Opens the heap of an image; it owns its memory, as after dergamoyne_heap_open. The length tells how many blocks it has. Refusals:
+   10, 100, 101; then there is nothing to close. */
+DERGAMOYNE_REFUSABLE dergamoyne_heap_open_image(struct dergamoyne_heap *h, const uint8_t *image, size_t image_length)
+{
+    size_t blocks = image_length < DERGAMOYNE_IMAGE_BYTES(1) ? 0 : (image_length - DERGAMOYNE_IMAGE_BYTES(0)) / 37;
+    enum dergamoyne_refusal refusal;
+    uint32_t *memory;
+    dergamoyne_heap_none(h);
+    if (blocks == 0 || blocks > DERGAMOYNE_MOST_BLOCKS || image_length != DERGAMOYNE_IMAGE_BYTES(blocks))
+        return DERGAMOYNE_NOT_WELL_FORMED;
+    memory = (uint32_t *)calloc(blocks, 37);
+    if (memory == NULL)
+        return DERGAMOYNE_NO_MEMORY;
+    refusal = dergamoyne_heap_lend_image(h, image, image_length, memory, 8 * blocks, memory + 8 * blocks, blocks,
+                                         (uint8_t *)(memory + 9 * blocks), blocks);
+    if (refusal != DERGAMOYNE_DONE)
+        free(memory);
+    else
+        h->memory = memory;
     return refusal;
 }
 

@@ -1,7 +1,7 @@
 """Cases of the exported calls with what comes of them, for tests/c/cases.c.
 
 python3 model/calls.py prints those stored in tests/c/cases.txt;
-python3 model/calls.py SEED COUNT prints COUNT * 60 drawn from SEED.
+python3 model/calls.py SEED COUNT prints COUNT * 70 drawn from SEED.
 
 A case is two lines, before the call and after it:
 
@@ -10,7 +10,8 @@ A case is two lines, before the call and after it:
 
 Each <list> is its length and then its numbers. The answer has its numbers in
 the order of its struct in include/dergamoyne.h. `out` is the further buffer of
-a call that takes one, else of length 0. A new call is a line of CALLS.
+a call that takes one, else of length 0: words of an export, bytes of an image,
+which Save writes and Load reads. A new call is a line of CALLS.
 """
 
 import itertools
@@ -22,8 +23,10 @@ import chains
 import damage
 import draw
 import draw_chains
+import draw_images
 import export_cases
 import exports
+import images
 import machine
 import probe
 import states
@@ -61,6 +64,8 @@ CALLS = {
     "store_field_reference": plain(chains.store_field_reference),
     "export_objects": exports.export_objects,
     "state": plain(states.state),
+    "save": images.save,
+    "load": images.load,
 }
 
 # The letters by which heapprobe's cases name the calls of document 01.
@@ -174,6 +179,28 @@ def drawn_states(rng, count):
         yield state_case(rng)
 
 
+def drawn_images(rng, count):
+    """Ten of Save and Load, so many times."""
+    for _ in range(10 * count):
+        name, h, further = draw_images.case(rng)
+        yield case(name, [], h, further)
+
+
+def images_gone_over():
+    """The images worked out by hand: saved and loaded; cut at every length; with
+    every byte changed."""
+    rng = random.Random(107)
+    for h, image in images.by_hand():
+        lent = draw_images.other_heap(rng, h.M)
+        for length in (0, len(image) - 1, len(image), len(image) + 2):
+            yield case("save", [], h, [7] * length)
+        for cut in draw_images.cuts(image) if h.M < 3 else [image]:
+            yield case("load", [], lent, cut)
+        others = lambda byte: [byte ^ 1, 255] if h.M == 1 else [byte ^ 1]
+        for changed in draw_images.changes(image, others):
+            yield case("load", [], lent, changed)
+
+
 def stored():
     """Those worked out by hand, and a few drawn."""
     for _, letter, numbers, h, _ in damage.cases():
@@ -190,6 +217,8 @@ def stored():
     for _, h, number, _ in states.by_hand():
         yield case("state", [number], h)
     yield from drawn_states(random.Random(106), 16)
+    yield from images_gone_over()
+    yield from drawn_images(random.Random(108), 30)
 
 
 def main(arguments):
@@ -198,7 +227,8 @@ def main(arguments):
         found = itertools.chain(drawn(random.Random(f"calls {seed}"), int(count)),
                                 drawn_chains(random.Random(f"chains {seed}"), int(count)),
                                 drawn_exports(random.Random(f"exports {seed}"), int(count)),
-                                drawn_states(random.Random(f"states {seed}"), int(count)))
+                                drawn_states(random.Random(f"states {seed}"), int(count)),
+                                drawn_images(random.Random(f"images {seed}"), int(count)))
     else:
         found = stored()
     sys.stdout.writelines(found)

@@ -2,10 +2,12 @@
 
        CHANGES   the call is lent the record and the three buffers to change
        LOOKS     it takes the record by value and the three buffers to read
-       WRITES    it looks, and writes to a further buffer
+       WRITES    it looks, and writes words to a further buffer
+       SAVES     it looks, and writes an image to a further buffer of bytes
+       LOADS     it changes, and reads an image
 
    Then the call's name, its answer's struct, how many numbers it takes, and what each of them is (see heap.h). The file has no
-   guard: it is included wherever a list of the calls is wanted, with the three words above defined for it. */
+   guard: it is included wherever a list of the calls is wanted, with the words above defined for it. */
 CHANGES(format, answer, 2, BLOCKS, PACE)
 LOOKS(read, read_answer, 2, BLOCK, WORD)
 LOOKS(look, look_answer, 1, BLOCK)
@@ -22,3 +24,5 @@ CHANGES(store_field_number, answer, 3, BLOCK, FIELD, NUMBER)
 CHANGES(store_field_reference, answer, 3, BLOCK, FIELD, TARGET)
 WRITES(export_objects, export_answer, 3, START, FIELDS, FIELD)
 LOOKS(state, answer, 1, BLOCK)
+SAVES(save, answer, 0, NONE)
+LOADS(load, answer, 0, SAVED)

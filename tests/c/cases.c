@@ -7,8 +7,9 @@
    A case is two lines, before the call and after it:
        NAME <numbers> <registers> <words> <colours> <bytes> <out>
        <answer> <registers> <words> <colours> <bytes> <out>
-   Each <list> is its length and then its numbers; model/calls.py writes them. The last line printed tells how many there were.
-   Where something differs, or a call has no case, it says what and exits with 1. */
+   Each <list> is its length and then its numbers; model/calls.py writes them. <out> has words of an export, or bytes of an image.
+   The last line printed tells how many there were. Where something differs, or a call has no case, it says what and exits with
+   1. */
 #include "machine.h"
 #include <ctype.h>
 #include <stdio.h>
@@ -158,6 +159,7 @@ static size_t perform(uint32_t *answer)
     h.colours = (uint32_t *)(void *)lent(&parts[2]), h.colours_length = parts[2].length;
     h.bytes = lent(&parts[3]), h.bytes_length = parts[3].length;
     h.out = (uint32_t *)(void *)lent(&parts[4]), h.out_length = parts[4].length;
+    h.image = lent(&parts[4]), h.image_length = parts[4].length;
     return call->perform(&h, numbers, answer);
 }
 
@@ -175,6 +177,7 @@ static void do_case(void)
     uint32_t answer[MOST_ANSWER];
     size_t length;
     read_list(numbers, call->count);
+    parts[4].width = call->width;
     for (size_t i = 0; i < PARTS; i++)
         lend(&parts[i]);
     if (parts[0].length != REGISTERS)

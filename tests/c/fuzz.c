@@ -4,6 +4,7 @@
        fuzz [--spoil] [--counts] SEED SECONDS
 
    A round has a heap of its own: fresh, running, or with damage done to both sides alike, sometimes of lengths that don't fit.
+   Now and then it is saved, a byte of its image is changed on both sides, and that is loaded.
    Each buffer stands between two pages that can't be touched, by turns against the one behind it and against the one before
    it. The same seed gives the same calls. It prints how many calls it made, and `no difference`; or the seed, the call and what
    differs, and exits with 1. With --spoil the plain side makes a mistake of document 01's list, a new block white while
@@ -33,11 +34,11 @@
 #define PERFORMED written
 #include "perform.h"
 
-enum { CALLS = sizeof proved / sizeof *proved, PARTS = 5, MOST = 16384, REGISTERS = sizeof(struct dergamoyne_regs) / 4 };
-enum { RECORD, WORDS, COLOURS, BYTES, OUT };
-static const char *const part_names[PARTS] = {"register", "words", "colours", "bytes", "out"};
-static const size_t widths[PARTS] = {4, 4, 4, 1, 4};
-static const size_t most[PARTS] = {4 * REGISTERS, 32 * (MOST + 2), 4 * (MOST + 2), MOST + 2, 32 * (MOST + 2)};
+enum { CALLS = sizeof proved / sizeof *proved, PARTS = 6, MOST = 16384, REGISTERS = sizeof(struct dergamoyne_regs) / 4 };
+enum { RECORD, WORDS, COLOURS, BYTES, OUT, IMAGE };
+static const char *const part_names[PARTS] = {"register", "words", "colours", "bytes", "out", "image"};
+static const size_t widths[PARTS] = {4, 4, 4, 1, 4, 1};
+static const size_t most[PARTS] = {4 * REGISTERS, 32 * (MOST + 2), 4 * (MOST + 2), MOST + 2, 32 * (MOST + 2), 52 + 37 * (MOST + 2)};
 typedef char records_are_alike[sizeof(struct dergamoyne_regs) == sizeof(struct plain_regs) ? 1 : -1];
 
 /* One of the two: its calls, its memory between guard pages, and the heap that stands in it. */
@@ -63,8 +64,8 @@ static void say_call(void)
     printf("fuzz: seed %llu, call %llu: %s", seed, made, proved[call].name);
     for (unsigned i = 0; i < proved[call].count; i++)
         printf(" %lu", (unsigned long)numbers[i]);
-    printf(" on %lu words, %lu colours, %lu bytes, out of %lu\n", (unsigned long)lengths[WORDS], (unsigned long)lengths[COLOURS],
-           (unsigned long)lengths[BYTES], (unsigned long)lengths[OUT]);
+    printf(" on %lu words, %lu colours, %lu bytes, out of %lu, image of %lu\n", (unsigned long)lengths[WORDS],
+           (unsigned long)lengths[COLOURS], (unsigned long)lengths[BYTES], (unsigned long)lengths[OUT], (unsigned long)lengths[IMAGE]);
 }
 
 static void differ(const char *what, size_t at, uint32_t is, uint32_t other)
@@ -148,6 +149,7 @@ static void place(struct side *s, int at_end)
     s->heap.colours = (uint32_t *)(void *)s->lent[COLOURS], s->heap.colours_length = lengths[COLOURS];
     s->heap.bytes = s->lent[BYTES], s->heap.bytes_length = lengths[BYTES];
     s->heap.out = (uint32_t *)(void *)s->lent[OUT], s->heap.out_length = lengths[OUT];
+    s->heap.image = s->lent[IMAGE], s->heap.image_length = lengths[IMAGE];
 }
 
 static uint32_t get(const struct side *s, size_t part, size_t i)
@@ -276,12 +278,18 @@ static uint32_t drawn(enum kind kind)
     }
 }
 
-/* A call and its numbers. Format is seldom, since it ends what was there. */
+/* How seldom a call is made: Format ends what was there, and Load goes back to what was saved. */
+static uint32_t seldom(const struct call *c)
+{
+    return c->numbers[0] == BLOCKS ? 128 : c->numbers[0] == SAVED ? 8 : 1;
+}
+
+/* A call and its numbers. */
 static void draw_call(void)
 {
     do
         call = below(CALLS);
-    while (proved[call].numbers[0] == BLOCKS && !one_in(128));
+    while (!one_in(seldom(&proved[call])));
     for (unsigned i = 0; i < proved[call].count; i++)
         numbers[i] = drawn(proved[call].numbers[i]);
     if (proved[call].numbers[0] == HOLDER && numbers[0] == 0 && !one_in(8))
@@ -393,6 +401,36 @@ static void audit_bent(void)
     put(BYTES, b, byte);
 }
 
+/* Save, then Load of the image with one byte of it changed. Most changes give no image; some give that of another heap. What was
+   saved is loaded again afterwards. */
+static void load_bent(void)
+{
+    size_t at = one_in(2) ? below(lengths[IMAGE] < 60 ? (uint32_t)lengths[IMAGE] : 60) : below((uint32_t)lengths[IMAGE]);
+    uint32_t was;
+    call = call_named("save");
+    do_call();
+    was = get(&sides[0], IMAGE, at);
+    put(IMAGE, at, one_in(2) ? was ^ 1u << below(8) : below(256));
+    call = call_named("load");
+    do_call();
+    put(IMAGE, at, was);
+    do_call();
+}
+
+/* The same with a buffer that is lent one element short. */
+static void load_short(void)
+{
+    size_t part = 1 + below(3);
+    for (size_t s = 0; s < 2; s++)
+        *(part == WORDS     ? &sides[s].heap.words_length
+          : part == COLOURS ? &sides[s].heap.colours_length
+                            : &sides[s].heap.bytes_length) -= 1;
+    call = call_named("load");
+    do_call();
+    for (size_t s = 0; s < 2; s++)
+        place(&sides[s], sides[s].lent[RECORD] != sides[s].start[RECORD]);
+}
+
 /* A fresh heap; with a number that doesn't fit it stays a record of zeroes. */
 static void format(uint32_t m)
 {
@@ -419,6 +457,9 @@ static void lay_out(uint32_t m)
     lengths[WORDS] = 8 * (size_t)m;
     lengths[COLOURS] = lengths[BYTES] = m;
     lengths[OUT] = one_in(2) ? 8 * (size_t)m : below(8 * m + 9);
+    lengths[IMAGE] = 52 + 37 * (size_t)m;
+    if (one_in(8))
+        lengths[IMAGE] = one_in(2) ? below(52 + 37 * m) : lengths[IMAGE] + 1 - 2 * below(2);
     if (one_in(64))
         lengths[part] = one_in(4) ? 0 : lengths[part] + 1 - 2 * below(2);
     for (size_t s = 0; s < 2; s++) {
@@ -441,6 +482,10 @@ static void play(void)
             damage();
         if (!damaged && one_in(8) && blocks() != 0)
             audit_bent();
+        if (!damaged && one_in(8) && lengths[IMAGE] != 0)
+            load_bent();
+        if (!damaged && one_in(64) && blocks() != 0)
+            load_short();
         draw_call();
         do_call();
     }

@@ -19,6 +19,10 @@ int main(void)
     dergamoyne_allocate_chain(&h.regs, h.words, 0, h.colours, 0, h.bytes, 0, 0, 0, 1);
 #elif IGNORED == 7
     dergamoyne_heap_export_objects(&h, 0, 1, 0, 0, 0, 0, 0);
+#elif IGNORED == 8
+    dergamoyne_heap_save(&h, h.bytes, 0);
+#elif IGNORED == 9
+    dergamoyne_load(&h.regs, h.words, 0, h.colours, 0, h.bytes, 0, h.bytes, 0);
 #endif
     return 0;
 }

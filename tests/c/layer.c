@@ -378,18 +378,112 @@ static void states(void)
     expect(dergamoyne_heap_state(&h, 2, &state) == DERGAMOYNE_DOES_NOT_FIT && state == DERGAMOYNE_STATE_GREY, "a refused state");
 }
 
+/* ---- images ---- */
+
+/* A heap of three blocks while marking: the root 2 is black and names 3, which is grey. */
+static void running(struct dergamoyne_heap *h)
+{
+    uint32_t root = 0, second = 0;
+    expect(dergamoyne_heap_open(h, 3, 1) == DERGAMOYNE_DONE && dergamoyne_heap_new_root(h, &root) == DERGAMOYNE_DONE &&
+               dergamoyne_heap_new_block(h, root, 0, &second) == DERGAMOYNE_DONE &&
+               dergamoyne_heap_store_number(h, second, 7, 42) == DERGAMOYNE_DONE && dergamoyne_heap_work(h, 5) == DERGAMOYNE_DONE,
+           "a running heap");
+    expect(dergamoyne_heap_phase(h) == DERGAMOYNE_MARKING && h->regs.grey == second, "it is marking");
+}
+
+static int same(const struct dergamoyne_heap *g, const struct dergamoyne_heap *h)
+{
+    return memcmp(&g->regs, &h->regs, sizeof g->regs) == 0 && memcmp(g->words, h->words, 4 * h->words_length) == 0 &&
+           memcmp(g->colours, h->colours, 4 * h->colours_length) == 0 && memcmp(g->bytes, h->bytes, h->bytes_length) == 0;
+}
+
+static void images(void)
+{
+    enum { LENGTH = 52 + 37 * 3 };
+    static uint32_t words[24], colours[3];
+    static uint8_t bytes[3];
+    struct dergamoyne_heap h, spare, other;
+    uint8_t image[LENGTH + 2];
+    running(&h);
+    memset(image, 7, sizeof image);
+    expect(dergamoyne_heap_image_bytes(&h) == LENGTH && DERGAMOYNE_IMAGE_BYTES(3) == LENGTH, "the length of an image");
+    expect(dergamoyne_heap_save(&h, image, LENGTH - 1) == DERGAMOYNE_OTHER_LENGTH && image[0] == 7, "too short an output");
+    expect(dergamoyne_heap_save(&h, image, sizeof image) == DERGAMOYNE_DONE, "save");
+    expect(image[0] == 9 && image[4] == 3 && image[LENGTH] == 7 && image[LENGTH + 1] == 7, "the image and what is past it");
+    expect(dergamoyne_heap_open_image(&spare, image, LENGTH) == DERGAMOYNE_DONE && same(&spare, &h), "open");
+    expect(dergamoyne_heap_check(&spare) == DERGAMOYNE_DONE, "what was opened is well-formed");
+    expect(dergamoyne_heap_work(&spare, 9) == DERGAMOYNE_DONE && dergamoyne_heap_work(&h, 9) == DERGAMOYNE_DONE && same(&spare, &h),
+           "both go on alike");
+    expect(dergamoyne_heap_load(&spare, image, LENGTH) == DERGAMOYNE_DONE && !same(&spare, &h), "back to what was saved");
+    expect(dergamoyne_heap_load(&spare, image, LENGTH + 1) == DERGAMOYNE_NOT_WELL_FORMED, "a byte after the image");
+    expect(dergamoyne_heap_lend_image(&other, image, LENGTH, words, 24, colours, 3, bytes, 3) == DERGAMOYNE_DONE, "in own memory");
+    expect(same(&other, &spare) && other.memory == NULL, "the same heap there");
+    expect(dergamoyne_heap_lend_image(&other, image, LENGTH, words, 23, colours, 3, bytes, 3) == DERGAMOYNE_OTHER_LENGTH, "other lengths");
+    expect(dergamoyne_heap_save(&other, image, sizeof image) == DERGAMOYNE_DOES_NOT_FIT, "save of no heap");
+    for (size_t length = 0; length < sizeof image; length++)
+        expect(length == LENGTH || dergamoyne_heap_open_image(&other, image, length) == DERGAMOYNE_NOT_WELL_FORMED, "another length");
+    h.colours[0] = 5;
+    expect(dergamoyne_heap_save(&h, image, sizeof image) == DERGAMOYNE_NOT_WELL_FORMED, "save of a damaged heap");
+    dergamoyne_heap_close(&h);
+    dergamoyne_heap_close(&spare);
+}
+
+/* The largest heap, as Format makes it, and one of a block more. */
+enum { MOST = DERGAMOYNE_MOST_BLOCKS, ONE_MORE };
+
+static void put_four(uint8_t **at, uint32_t n)
+{
+    for (unsigned shift = 0; shift < 32; shift += 8)
+        *(*at)++ = (uint8_t)(n >> shift);
+}
+
+/* The image of m free blocks in rising order, at pace 1. */
+static void put_fresh(uint8_t *at, uint32_t m)
+{
+    const uint32_t registers[] = {9, m, 1, 0, 1, 2, m, 0, 0, 0, m};
+    for (size_t i = 0; i < sizeof registers / sizeof *registers; i++)
+        put_four(&at, registers[i]);
+    for (uint32_t i = 0; i < m; i++)
+        put_four(&at, 4294967294u);
+    put_four(&at, m);
+    memset(at, 0, m);
+    at += m;
+    put_four(&at, 8 * m);
+    for (uint32_t i = 0; i < 8 * m; i++)
+        put_four(&at, i % 8 == 0 && i / 8 < m - 1 ? i / 8 + 3 : 0);
+}
+
+static void largest_images(void)
+{
+    static uint8_t image[DERGAMOYNE_IMAGE_BYTES(ONE_MORE)], written[DERGAMOYNE_IMAGE_BYTES(MOST)], bytes[ONE_MORE];
+    static uint32_t words[8 * ONE_MORE], colours[ONE_MORE];
+    static struct dergamoyne_regs regs;
+    struct dergamoyne_heap h;
+    put_fresh(image, MOST);
+    expect(dergamoyne_heap_open_image(&h, image, DERGAMOYNE_IMAGE_BYTES(MOST)) == DERGAMOYNE_DONE, "the largest image");
+    expect(dergamoyne_heap_save(&h, written, sizeof written) == DERGAMOYNE_DONE && memcmp(image, written, sizeof written) == 0,
+           "it is what the largest heap is saved as");
+    dergamoyne_heap_close(&h);
+    put_fresh(image, ONE_MORE);
+    expect(dergamoyne_load(&regs, words, 8 * (size_t)ONE_MORE, colours, ONE_MORE, bytes, ONE_MORE, image, sizeof image).refusal == 10,
+           "an image of too many blocks");
+    expect(dergamoyne_heap_open_image(&h, image, sizeof image) == DERGAMOYNE_NOT_WELL_FORMED, "the same by the layer");
+}
+
 /* ---- texts and versions ---- */
 
 static void texts(void)
 {
-    for (uint32_t n = 0; n < 10; n++)
-        for (uint32_t m = 0; m < n; m++)
-            expect(strcmp(dergamoyne_refusal_text(n), dergamoyne_refusal_text(m)) != 0, "a refusal has a text of its own");
+    static const uint32_t refusals[] = {0, 1, 2, 3, 4, 5, 6, 7, 8, 9, 10, 13};
+    for (size_t n = 0; n < sizeof refusals / sizeof *refusals; n++)
+        for (size_t m = 0; m < n; m++)
+            expect(strcmp(dergamoyne_refusal_text(refusals[n]), dergamoyne_refusal_text(refusals[m])) != 0,
+                   "a refusal has a text of its own");
     for (uint32_t n = 1; n < 5; n++)
         expect(strcmp(dergamoyne_reason_text(n), dergamoyne_reason_text(n - 1)) != 0, "a reason has a text of its own");
     for (uint32_t n = 1; n < 7; n++)
         expect(strcmp(dergamoyne_state_text(n), dergamoyne_state_text(n - 1)) != 0, "a state has a text of its own");
-    expect(strcmp(dergamoyne_refusal_text(10), dergamoyne_refusal_text(11)) == 0, "an unknown refusal");
+    expect(strcmp(dergamoyne_refusal_text(98), dergamoyne_refusal_text(99)) == 0, "an unknown refusal");
     expect(strcmp(dergamoyne_state_text(0), dergamoyne_state_text(7)) == 0, "an unknown state");
 }
 
@@ -415,6 +509,8 @@ int main(void)
     enough();
     object_rows();
     states();
+    images();
+    largest_images();
     texts();
     versions();
     return bad;

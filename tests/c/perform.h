@@ -26,20 +26,28 @@
 #define CHANGES(name, result, count, ...) PERFORM_BY(name, result, PERFORM_RECORD, PERFORM_LENT PERFORM_##count)
 #define LOOKS(name, result, count, ...) PERFORM_BY(name, result, PERFORM_SEEN, PERFORM_LENT PERFORM_##count)
 #define WRITES(name, result, count, ...) PERFORM_BY(name, result, PERFORM_SEEN, PERFORM_LENT, h->out, h->out_length PERFORM_##count)
+#define SAVES(name, result, count, ...) PERFORM_BY(name, result, PERFORM_SEEN, PERFORM_LENT, h->image, h->image_length PERFORM_##count)
+#define LOADS(name, result, count, ...) PERFORM_BY(name, result, PERFORM_RECORD, PERFORM_LENT, h->image, h->image_length PERFORM_##count)
 #include "calls.h"
 #undef CHANGES
 #undef LOOKS
 #undef WRITES
+#undef SAVES
+#undef LOADS
 
-#define CHANGES(name, result, count, ...) {#name, count, PERFORM(name), {__VA_ARGS__}},
+#define CHANGES(name, result, count, ...) {#name, count, 4, PERFORM(name), {__VA_ARGS__}},
 #define LOOKS CHANGES
 #define WRITES CHANGES
+#define SAVES(name, result, count, ...) {#name, count, 1, PERFORM(name), {__VA_ARGS__}},
+#define LOADS SAVES
 static const struct call PERFORMED[] = {
 #include "calls.h"
 };
 #undef CHANGES
 #undef LOOKS
 #undef WRITES
+#undef SAVES
+#undef LOADS
 #undef PERFORM_BY
 #undef PERFORM_LENT
 #undef PERFORM_RECORD

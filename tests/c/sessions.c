@@ -23,7 +23,7 @@ static uint8_t bytes[MOST];
 static struct heap lent(uint32_t m)
 {
     size_t n = m < MOST ? m : MOST;
-    struct heap h = {&regs, words, colours, NULL, bytes, 8 * n, n, n, 0};
+    struct heap h = {&regs, words, colours, NULL, bytes, NULL, 8 * n, n, n, 0, 0};
     return h;
 }
 

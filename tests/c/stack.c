@@ -11,8 +11,8 @@ enum { M = 40, STACK = 1 << 16, FILLED = 0xA5, TURNS = 20000 };
 
 static struct MACHINE(regs) regs;
 static uint32_t words[8 * M], colours[M], out[8 * M];
-static uint8_t bytes[M];
-static struct heap heap = {&regs, words, colours, out, bytes, 8 * M, M, M, 8 * M};
+static uint8_t bytes[M], image[52 + 37 * M];
+static struct heap heap = {&regs, words, colours, out, bytes, image, 8 * M, M, M, 8 * M, sizeof image};
 
 static unsigned char stack[STACK];
 static ucontext_t here, there;

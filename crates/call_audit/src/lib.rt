@@ -1,77 +1,32 @@
 // The audit: 1 for a well-formed heap, else 0. Its cost is linear in M, and it keeps no memory of its own.
 use machine::Answer;
 use machine::Regs;
-use machine::State;
+use part_block::Asked;
 ghost use mathlib.Core.Path.{_≡_};
 ghost use mathlib.Core.List.{List};
 ghost use mathlib.Core.Bool.{true};
 ghost use Prim.Native.Nat.{ℕ, _≤_};
 ghost use lib.ListN.{length};
-ghost use Rattle.machine.specs.declared.State.the-variants.{Grey, Black, Free};
 ghost use mathlib.Core.Logic.{_↔_};
 ghost use Rattle.machine.specs.WellFormed.{Block, WellFormed};
 ghost use Rattle.machine.specs.Heap.{heap, colouring};
 ghost use Rattle.machine.specs.Ready.{Ready};
-ghost use Rattle.machine.specs.Colouring.{Colouring, coloured, CellsFit};
+ghost use Rattle.machine.specs.Colouring.{coloured, CellsFit};
+ghost use Rattle.machine.specs.Block.{references};
 ghost use Rattle.machine.specs.Lists.{allFrom};
-ghost use Rattle.machine.specs.Audit.{layoutPasses, zeroFrom, statePasses, blockPasses, passes, audit};
+ghost use Rattle.part_block.specs.Asked.{answered};
+ghost use Rattle.machine.specs.Audit.{layoutPasses, mayNameAll, blockPasses, passes, audit};
 
-// Whether words 1 to 7 are 0.
-fn zeroes(part: &[u32]) -> bool
-    requires { ⌜ length (now part) ≡ 8 ⌝ }
-    ensures { λ t. ⌜ t ≡ zeroFrom 7 1 (now (part .entry)) ⌝ }
-{
-    if (part[1] | part[2] | part[3]) != 0 {
-        return false;
-    }
-    (part[4] | part[5] | part[6] | part[7]) == 0
-}
-
-// Whether the grey block b passes.
-fn grey_passes(r: Regs, colours: &[u32], part: &[u32], byte: u8, b: u32) -> bool
+// Whether a block passes of which this is left to ask, and whose words are part and whose byte is byte.
+fn passes_asked(r: Regs, colours: &[u32], part: &[u32], byte: u8, asked: Asked) -> bool
     requires { ⌜ (r .blocks ≤ 16384) × CellsFit (r .blocks) (now colours) × (length (now part) ≡ 8) ⌝ }
-    ensures { λ t. ⌜ t ≡ statePasses r (coloured (r .blocks) (r .grey) (now (colours .entry))) (now (part .entry)) byte b Grey ⌝ }
+    ensures { λ t. ⌜ t ≡ answered asked (λ strict. mayNameAll r (coloured (r .blocks) (r .grey) (now (colours .entry))) strict (references (now (part .entry)) byte)) ⌝ }
 {
-    if r.phase == machine::MARKING {
-        return part_names::may_name_all(r, colours, false, part, byte);
-    }
-    false
-}
-
-// Whether the black block b passes.
-fn black_passes(r: Regs, colours: &[u32], part: &[u32], byte: u8, b: u32) -> bool
-    requires { ⌜ (r .blocks ≤ 16384) × CellsFit (r .blocks) (now colours) × (length (now part) ≡ 8) ⌝ }
-    ensures { λ t. ⌜ t ≡ statePasses r (coloured (r .blocks) (r .grey) (now (colours .entry))) (now (part .entry)) byte b Black ⌝ }
-{
-    if part_state::may_be_black(r.phase, r.position, b) {
-        return part_names::may_name_all(r, colours, r.phase == machine::MARKING, part, byte);
-    }
-    false
-}
-
-// Whether the free block passes: its byte and its words 1 to 7 are 0.
-fn free_passes(part: &[u32], byte: u8) -> bool
-    requires { ⌜ length (now part) ≡ 8 ⌝ }
-    ensures { λ t. ⌜ ((r : Regs) (k : Colouring) (b : ℕ) → t ≡ statePasses r k (now (part .entry)) byte b Free) ⌝ }
-{
-    if byte == 0 {
-        return zeroes(part);
-    }
-    false
-}
-
-// Whether the block b in the state s passes, whose words are part and whose byte is byte.
-fn state_passes(r: Regs, colours: &[u32], part: &[u32], byte: u8, b: u32, s: State) -> bool
-    requires { ⌜ (r .blocks ≤ 16384) × CellsFit (r .blocks) (now colours) × (length (now part) ≡ 8) ⌝ }
-    ensures { λ t. ⌜ t ≡ statePasses r (coloured (r .blocks) (r .grey) (now (colours .entry))) (now (part .entry)) byte b s ⌝ }
-{
-    match s {
-        State::LiveWhite => part_names::may_name_all(r, colours, false, part, byte),
-        State::Doomed => true,
-        State::Grey => grey_passes(r, colours, part, byte, b),
-        State::Black => black_passes(r, colours, part, byte, b),
-        State::Free => free_passes(part, byte),
-        State::Outside => false,
+    match asked {
+        Asked::Passes => true,
+        Asked::Fails => false,
+        Asked::Names => part_names::may_name_all(r, colours, false, part, byte),
+        Asked::NamesStrictly => part_names::may_name_all(r, colours, true, part, byte),
     }
 }
 
@@ -83,8 +38,11 @@ fn block_passes(r: Regs, words: &[u32], colours: &[u32], bytes: &[u8], b: u32) -
     let i = b as usize - 2;
     let at = 8 * i;
     let end = at + 8;
+    let part = &words[at..end];
+    let byte = bytes[i];
     let s = part_state::state_of(r.blocks, r.phase, r.position, colours, b);
-    state_passes(r, colours, &words[at..end], bytes[i], b, s)
+    let asked = part_block::ask(r.phase, r.position, part, byte, b, s);
+    passes_asked(r, colours, part, byte, asked)
 }
 
 // Whether every block passes.
@@ -116,7 +74,7 @@ fn greys(r: Regs, colours: &[u32]) -> bool
 }
 
 // Whether the heap is well-formed. Only a block whose colour is legal passes, so legal colours are not looked for apart.
-fn passes(r: Regs, words: &[u32], colours: &[u32], bytes: &[u8]) -> bool
+pub fn passes(r: Regs, words: &[u32], colours: &[u32], bytes: &[u8]) -> bool
     ensures { λ t. ⌜ t ≡ passes (heap r (now (words .entry)) (now (colours .entry)) (now (bytes .entry))) ⌝ }
 {
     if part_checks::entry(r, words, colours, bytes) == 0 {

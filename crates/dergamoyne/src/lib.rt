@@ -1,5 +1,5 @@
-// The outer calls, for a host in C. Nine write to the heap: the host lends its one register record, and the call changes it in
-// place, over a core that takes the record by value and gives it back. Seven only look, and take the record by value.
+// The outer calls, for a host in C. Ten write to the heap: the host lends its one register record, and the call changes it in
+// place, over a core that takes the record by value and gives it back. Eight only look, and take the record by value.
 use machine::Answer;
 use machine::ReadAnswer;
 use machine::Regs;
@@ -18,6 +18,8 @@ ghost use Rattle.machine.specs.Field.{readField, storeFieldNumber, storeFieldRe
 ghost use Rattle.machine.specs.Work.{work};
 ghost use Rattle.machine.specs.Audit.{audit};
 ghost use Rattle.machine.specs.Tell.{tellState};
+ghost use Rattle.machine.specs.Save.{save};
+ghost use Rattle.machine.specs.Load.{load};
 ghost use Rattle.call_export.specs.Export.{exportNumbers};
 ghost use Rattle.call_export_objects.specs.Objects.{exportObjectsNumbers};
 ghost use Rattle.dergamoyne.specs.Host.{lookIndex, version, recordSize};
@@ -35,7 +37,7 @@ pub struct LookAnswer {
 pub extern "C" fn dergamoyne_version() -> u32
     ensures { λ n. ⌜ n ≡ version ⌝ }
 {
-    4000
+    5000
 }
 
 // How many bytes a register record takes in memory.
@@ -328,4 +330,36 @@ pub extern "C" fn dergamoyne_export_objects(
         fields,
         link,
     )
+}
+
+// Save: the image of the heap, written to the output out, which keeps its bytes past the image. Refused by 1; by 10 where the audit
+// turns the heap down; by 13 where the output is shorter than the image.
+#[no_mangle]
+pub extern "C" fn dergamoyne_save(
+    regs: Regs,
+    words: &[u32],
+    colours: &[u32],
+    bytes: &[u8],
+    out: &mut [u8],
+) -> Answer
+    ensures { λ a. ⌜ (record { answer = a; out = now (out .exit) }) ≡ save (now (out .entry)) (heap regs (now (words .entry)) (now (colours .entry)) (now (bytes .entry))) ⌝ }
+{
+    call_save::save(regs, words, colours, bytes, out)
+}
+
+// Load: the heap of an image, read into the record and the buffers, at which it doesn't look. Refused by 10 where the bytes aren't the
+// image of a heap that the audit accepts, with nothing after it; by 13 where the buffers have other lengths than the image asks for.
+#[no_mangle]
+pub extern "C" fn dergamoyne_load(
+    regs: &mut Regs,
+    words: &mut [u32],
+    colours: &mut [u32],
+    bytes: &mut [u8],
+    image: &[u8],
+) -> Answer
+    ensures { λ a. ⌜ given (record { regs = now (regs .exit); answer = a }) (now (words .exit)) (now (colours .exit)) (now (bytes .exit)) ≡ load (now (image .entry)) (heap (now (regs .entry)) (now (words .entry)) (now (colours .entry)) (now (bytes .entry))) ⌝ }
+{
+    let loaded = call_load::load(*regs, words, colours, bytes, image);
+    *regs = loaded.regs;
+    loaded.answer
 }

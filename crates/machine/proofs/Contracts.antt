@@ -1,5 +1,5 @@
 -- No second outcome fits a contract: two things equal to a third are equal.
---     no-second-outcome        the table of the nine calls
+--     no-second-outcome        the table of the calls
 -- Assumes nothing.
 use mathlib.Core.Path.{sym, _∙_, ap}
 use mathlib.Core.List.{List}
@@ -47,4 +47,5 @@ no-second-outcome =
       ofWork = λ n h. only _;
       ofAudit = λ h. only-audit _;
       ofState = λ b h. only-audit _;
+      ofLoad = λ i h. only _;
     }

@@ -39,6 +39,10 @@ pub mod Audits
 pub mod References
 pub mod Passing
 pub mod Telling
+pub mod Fours
+pub mod Images
+pub mod Frames
+pub mod Saving
 pub mod Computing
 pub mod Cases
 pub mod Contracts

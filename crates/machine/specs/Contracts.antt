@@ -3,7 +3,7 @@
 -- arguments and the heap at entry. Two outcomes that both fit are then the same.
 --     Same                         two outcomes of a call are the same: the result, and every buffer afterwards
 --     Only, OnlyRead, OnlyAudit, OnlyLook     no second outcome fits the equation with what is given
---     NoSecondOutcome              none for any of the nine calls, on any arguments and any heap
+--     NoSecondOutcome              none for any call of `Call`, on any arguments and any heap; Save's stands with its code (call_save)
 -- Assumes nothing.
 use Prim.Native.Nat.{ℕ}
 use mathlib.Core.Path.{_≡_}
@@ -22,6 +22,7 @@ use Rattle.machine.specs.Field.{readField, storeFieldNumber, storeFieldR
 use Rattle.machine.specs.Work.{work}
 use Rattle.machine.specs.Audit.{audit}
 use Rattle.machine.specs.Tell.{tellState}
+use Rattle.machine.specs.Load.{load}
 
 -- the same result, and the same words, colours and bytes afterwards
 pub record Same (o p : Outcome) (ws xs cs ds bs es : List ℕ) : Type 0 where
@@ -60,3 +61,4 @@ pub record NoSecondOutcome : Type 0 where
   pub ofWork : (n : ℕ) (h : Heap) → Only (work n h)
   pub ofAudit : (h : Heap) → OnlyAudit (audit h)
   pub ofState : (b : ℕ) (h : Heap) → OnlyAudit (tellState b h)
+  pub ofLoad : (i : List ℕ) (h : Heap) → Only (load i h)

@@ -24,6 +24,10 @@ pub mod WellFormed
 pub mod Layout
 pub mod Audit
 pub mod Tell
+pub mod Image
+pub mod Frame
+pub mod Save
+pub mod Load
 pub mod Session
 pub mod Cases
 pub mod Ready

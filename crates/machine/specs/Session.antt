@@ -3,7 +3,8 @@
 --     does c h             what the call c gives on the heap h: answer and heap afterwards
 --     session cs h         the heap after the calls cs, from the heap h
 --     lastOf cs c h        what c gives after the calls cs
--- Look's answer is a part of the word buffer, and no number: here its value is the length of the part.
+-- Look's answer is a part of the word buffer, and no number: here its value is the length of the part. Save's output is no part of the
+-- heap: here it is an argument, and what Save leaves in it is `save`'s (Save.antt).
 -- Assumes nothing.
 use Prim.Native.Nat.{ℕ}
 use mathlib.Core.List.{List, [], _∷_}
@@ -19,6 +20,8 @@ use Rattle.machine.specs.Field.{readField, storeFieldNumber, storeFieldR
 use Rattle.machine.specs.Work.{work}
 use Rattle.machine.specs.Audit.{audit}
 use Rattle.machine.specs.Tell.{tellState}
+use Rattle.machine.specs.Save.{save}
+use Rattle.machine.specs.Load.{load}
 
 pub data Call : Type 0 where
   Format : ℕ → ℕ → Call
@@ -35,6 +38,8 @@ pub data Call : Type 0 where
   Work : ℕ → Call
   Audit : Call
   State : ℕ → Call
+  Save : List ℕ → Call
+  Load : List ℕ → Call
 
 abbrev pub plainly : ReadGiven → Given
 plainly g = answering (g .answer .refusal) (g .answer .value) (g .answer .units) (g .heap)
@@ -54,6 +59,8 @@ does (StoreFieldReference b k t) h = storeFieldReference b k t h
 does (Work n) h = work n h
 does Audit h = audit h
 does (State b) h = tellState b h
+does (Save out) h = record { answer = save out h .answer; heap = h }
+does (Load i) h = load i h
 
 unfoldable pub session : List Call → Heap → Heap
 session [] h = h

@@ -1,26 +1,11 @@
 // The audit's test of references: what a word that holds a reference, and the root, may name.
 use machine::Regs;
-use machine::State;
 ghost use mathlib.Core.Path.{_≡_};
 ghost use Prim.Native.Nat.{_≤_};
 ghost use lib.ListN.{length};
 ghost use Rattle.machine.specs.Block.{references};
 ghost use Rattle.machine.specs.Colouring.{coloured, CellsFit};
-ghost use Rattle.machine.specs.Audit.{mayBeNamed, mayName, mayNameAll};
-
-// Whether a block in that state may be named: it is live, and where strict it is not white.
-fn may_be_named(strict: bool, s: State) -> bool
-    ensures { λ t. ⌜ t ≡ mayBeNamed strict s ⌝ }
-{
-    match s {
-        State::LiveWhite => !strict,
-        State::Doomed => false,
-        State::Grey => true,
-        State::Black => true,
-        State::Free => false,
-        State::Outside => false,
-    }
-}
+ghost use Rattle.machine.specs.Audit.{mayName, mayNameAll};
 
 // Whether a reference may hold x: 0, or a block that may be named.
 pub fn may_name(r: Regs, colours: &[u32], strict: bool, x: u32) -> bool
@@ -30,7 +15,7 @@ pub fn may_name(r: Regs, colours: &[u32], strict: bool, x: u32) -> bool
     if x == 0 {
         return true;
     }
-    may_be_named(
+    part_block::may_be_named(
         strict,
         part_state::state_of(r.blocks, r.phase, r.position, colours, x),
     )

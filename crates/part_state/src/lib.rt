@@ -17,7 +17,7 @@ pub fn ahead(phase: u32, position: u32, b: u32) -> bool
 }
 
 // The state of b, whose colour is c.
-fn state_from(phase: u32, position: u32, b: u32, c: Colour) -> State
+pub fn state_from(phase: u32, position: u32, b: u32, c: Colour) -> State
     ensures { λ x. ⌜ ((r : Regs) → r .phase ≡ phase → r .position ≡ position → x ≡ stateFrom r b c) ⌝ }
 {
     match c {

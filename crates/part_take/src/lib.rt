@@ -1,5 +1,4 @@
 // Taking a block: the tests of the holder and of the free list, then the first free block is taken, coloured and held.
-use machine::Colour;
 use machine::Regs;
 ghost use mathlib.Core.Path.{_≡_};
 ghost use mathlib.Core.Logic.{_≢_};
@@ -7,9 +6,8 @@ ghost use mathlib.Core.List.{List};
 ghost use Prim.Native.Nat.{ℕ, _≤_, _*_};
 ghost use lib.ListN.{length};
 ghost use Rattle.machine.specs.WellFormed.{Block};
-ghost use Rattle.machine.specs.Colouring.{repaint, CellsFit};
+ghost use Rattle.machine.specs.Colouring.{CellsFit};
 ghost use Rattle.machine.specs.Heap.{heap};
-ghost use Rattle.machine.specs.State.{newColour};
 ghost use Rattle.machine.specs.Allocate.{firstFits, listRefusal, taken, held, takeRefusal};
 
 // Whether the first free block is coloured free and its link is 0 or a block.
@@ -43,18 +41,6 @@ pub fn list_refusal(r: Regs, words: &[u32], colours: &[u32]) -> u32
     machine::DAMAGE
 }
 
-// The new block b gets its colour.
-fn colour_new(r: Regs, colours: &mut [u32], b: u32)
-    requires { ⌜ Block (length (now colours)) b ⌝ }
-    ensures { λ _. ⌜ now (colours .exit) ≡ repaint b (newColour r b) (now (colours .entry)) ⌝ }
-{
-    if part_state::may_be_black(r.phase, r.position, b) {
-        part_colours::paint(colours, b, Colour::Black);
-    } else {
-        part_colours::paint(colours, b, Colour::White);
-    }
-}
-
 // The first free block is taken off the free list, its word 0 zeroed, and coloured. Answers the registers afterwards.
 pub fn take(r: Regs, words: &mut [u32], colours: &mut [u32]) -> Regs
     requires { ⌜ (length (now words) ≡ 8 * r .blocks) × CellsFit (r .blocks) (now colours) × Block (r .blocks) (r .free) × (1 ≤ r .count) ⌝ }
@@ -65,7 +51,8 @@ pub fn take(r: Regs, words: &mut [u32], colours: &mut [u32]) -> Regs
     s.free = words[at];
     s.count = r.count - 1;
     words[at] = 0;
-    colour_new(r, colours, r.free);
+    let c = part_state::new_colour(r.phase, r.position, r.free);
+    part_colours::paint(colours, r.free, c);
     s
 }
 

@@ -14,7 +14,7 @@ use lib.ListN.{getD}
 use Rattle.machine.specs.Block.{wordOf, byteOf, bit}
 use Rattle.machine.specs.Format.{formatted}
 use Rattle.machine.specs.Session.{Call, session, lastOf}
-use Rattle.machine.specs.Session.Call.{Format, StoreNumber, StoreReference, SetRoot, Allocate, Work}
+use Rattle.machine.specs.Session.Call.{Format, StoreNumber, StoreReference, SetRoot, Allocate, Work, Load}
 use Rattle.machine.specs.WellFormed.{Names, WellFormed}
 use Rattle.machine.proofs.Computing.{the-machine}
 use Rattle.theory_promises.specs.Plans.{plan}
@@ -109,7 +109,7 @@ lasts =
 
 -- the calls that are refused have no acts
 record Spared : Type 0 where
-  answers : refusals refused night ≡ 0 ∷ 0 ∷ 0 ∷ 7 ∷ 4 ∷ 4 ∷ 1 ∷ 0 ∷ []
+  answers : refusals refused night ≡ 0 ∷ 0 ∷ 0 ∷ 7 ∷ 4 ∷ 4 ∷ 1 ∷ 10 ∷ 0 ∷ []
   untouched : Untouched refused night (3 ∷ 4 ∷ [])
   left : Leaves refused night 2 1
 
@@ -124,11 +124,13 @@ spared =
       untouched =
           spares-rows (3 ∷ 4 ∷ []) (Allocate 2 4) _ refl four also spares-rows (3 ∷ 4 ∷ []) (Allocate 2 5) _ refl five also spares-rows (3 ∷ 4 ∷ []) (Allocate 2 6) _ refl six
           also spares-rows (3 ∷ 4 ∷ []) (Allocate 3 0) _ refl (none (3 ∷ 4 ∷ [])) also spares-rows (3 ∷ 4 ∷ []) (StoreReference 3 0 9) _ refl (none (3 ∷ 4 ∷ [])) also spares-rows (3 ∷ 4 ∷ []) (SetRoot 9) _ refl (none (3 ∷ 4 ∷ []))
-          also spares-rows (3 ∷ 4 ∷ []) (Format 0 1) _ refl (none (3 ∷ 4 ∷ [])) also spares-rows (3 ∷ 4 ∷ []) (Work 30) _ refl (none (3 ∷ 4 ∷ [])) also tt;
+          also spares-rows (3 ∷ 4 ∷ []) (Format 0 1) _ refl (none (3 ∷ 4 ∷ [])) also spares-rows (3 ∷ 4 ∷ []) (Load []) _ refl (none (3 ∷ 4 ∷ []))
+          also spares-rows (3 ∷ 4 ∷ []) (Work 30) _ refl (none (3 ∷ 4 ∷ [])) also tt;
       left =
           spares-word (3 ∷ 4 ∷ []) (Allocate 2 4) _ refl four also spares-word (3 ∷ 4 ∷ []) (Allocate 2 5) _ refl five also spares-word (3 ∷ 4 ∷ []) (Allocate 2 6) _ refl six
           also spares-word (3 ∷ 4 ∷ []) (Allocate 3 0) _ refl (none (3 ∷ 4 ∷ [])) also spares-word (3 ∷ 4 ∷ []) (StoreReference 3 0 9) _ refl (none (3 ∷ 4 ∷ [])) also spares-word (3 ∷ 4 ∷ []) (SetRoot 9) _ refl (none (3 ∷ 4 ∷ []))
-          also spares-word (3 ∷ 4 ∷ []) (Format 0 1) _ refl (none (3 ∷ 4 ∷ [])) also spares-word (3 ∷ 4 ∷ []) (Work 30) _ refl (none (3 ∷ 4 ∷ [])) also tt;
+          also spares-word (3 ∷ 4 ∷ []) (Format 0 1) _ refl (none (3 ∷ 4 ∷ [])) also spares-word (3 ∷ 4 ∷ []) (Load []) _ refl (none (3 ∷ 4 ∷ []))
+          also spares-word (3 ∷ 4 ∷ []) (Work 30) _ refl (none (3 ∷ 4 ∷ [])) also tt;
     }
 
 pub unmoved : Unmoved

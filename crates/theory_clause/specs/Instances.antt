@@ -16,7 +16,7 @@ use Rattle.machine.specs.Heap.{Heap}
 use Rattle.machine.specs.Format.{formatted}
 use Rattle.machine.specs.WellFormed.{Names, WellFormed}
 use Rattle.machine.specs.Session.{Call, does, session, lastOf}
-use Rattle.machine.specs.Session.Call.{Format, StoreNumber, StoreReference, SetRoot, Allocate, Work}
+use Rattle.machine.specs.Session.Call.{Format, StoreNumber, StoreReference, SetRoot, Allocate, Work, Load}
 use Rattle.theory_promises.specs.Demand2.{Untouched}
 use Rattle.part_rows.specs.declared.Reason.the-variants.{Refused}
 use Rattle.part_rows.specs.Rows.{complete, stopped}
@@ -56,9 +56,10 @@ pub record Lasts : Type 0 where
   pub after : export 3 0 (session busy night) buffer ≡ complete 2 (rows 88)
 
 -- three blocks more, so that none is free; then an allocation held by the first row, which does its unit and is refused; a store into the
--- first row whose target is no block; a root that is no block; a Format of no blocks; and units through whole cycles
+-- first row whose target is no block; a root that is no block; a Format of no blocks; a Load of no bytes; and units through whole
+-- cycles
 abbrev pub refused : List Call
-refused = Allocate 2 4 ∷ Allocate 2 5 ∷ Allocate 2 6 ∷ Allocate 3 0 ∷ StoreReference 3 0 9 ∷ SetRoot 9 ∷ Format 0 1 ∷ Work 30 ∷ []
+refused = Allocate 2 4 ∷ Allocate 2 5 ∷ Allocate 2 6 ∷ Allocate 3 0 ∷ StoreReference 3 0 9 ∷ SetRoot 9 ∷ Format 0 1 ∷ Load [] ∷ Work 30 ∷ []
 
 -- the refusal numbers that calls answer, one after another
 unfoldable pub refusals : List Call → Heap → List ℕ
@@ -66,7 +67,7 @@ refusals [] h = []
 refusals (c ∷ cs) h = does c h .answer .refusal ∷ refusals cs (does c h .heap)
 
 pub record Unmoved : Type 0 where
-  pub answers : refusals refused night ≡ 0 ∷ 0 ∷ 0 ∷ 7 ∷ 4 ∷ 4 ∷ 1 ∷ 0 ∷ []
+  pub answers : refusals refused night ≡ 0 ∷ 0 ∷ 0 ∷ 7 ∷ 4 ∷ 4 ∷ 1 ∷ 10 ∷ 0 ∷ []
   pub untouched : Untouched refused night (3 ∷ 4 ∷ [])
   pub left : Leaves refused night (night .regs .root) 1
   pub lasts : SameList (oneBlock 0) night (session refused night) 3 (3 ∷ 4 ∷ [])

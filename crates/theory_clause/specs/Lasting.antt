@@ -3,7 +3,7 @@
 --     oneBlock w           rows that are a block each, and go on by link word w
 --     blocksOf kind h bs   the blocks of which the rows of bs are made
 --     Hangs h s            s is 0 or reachable
---     Spared cs h s bs     no call of the session formats the heap or touches a word of the blocks bs; s hangs before each call and at the end
+--     Spared cs h s bs     no call of the session makes the heap anew or touches a word of the blocks bs; s hangs before each call and at the end
 --     SameWords h k bs     the words of these blocks and their reference bits are in k what they are in h
 --     SameList kind h k s bs     the list from s is in k what it is in h: its rows' blocks, their words, and what an export gives on any buffer
 --     Leaves cs h b w      no call of the session touches word w of b

@@ -1,5 +1,6 @@
 -- The outer calls that change the registers, proved once for all of them.
-pub mod Numbers
+pub mod Copied
 pub mod Locals
 pub mod Back
+pub mod Contracts
 pub mod Outer

@@ -1,22 +1,23 @@
 -- What is known of each call: the one place that looks at which call it is.
---     format-known, work-known, allocate-known, chain-known     Format, Work, Allocate and Allocate chain; the others go by their kind (`quiet`, `acts-once`)
+--     format-known, load-known, work-known, allocate-known, chain-known     Format, Load, Work, Allocate and Allocate chain; the others go by their kind (`quiet`, `acts-once`)
+--     load-formed              what Load loads is well-formed, over any heap
 --     known                    each call
 --     calls-are-deeds          a call that doesn't make the heap anew is exactly its deeds
 --     deeds-allowed            each of them is allowed when it is done
 -- Assumes nothing.
 use Prim.Native.Nat.{ℕ, _*_, _/_, _%_, _≤_}
 use mathlib.Core.Path.{_≡_, refl, sym, subst}
-use mathlib.Core.Bool.{Bool, true, _&&_}
-use mathlib.Core.List.{[], _∷_, map}
+use mathlib.Core.Bool.{true, _&&_}
+use mathlib.Core.List.{List, [], _∷_, map}
 use native.Mathlib.Omega.{arith}
 use lib.Dec.{eqb, leb}
 use lib.ListN.{length, replicate}
-use borrow.Author.Tests.{leb-true}
+use borrow.Author.Tests.{eqb-true, leb-true}
 use Rattle.machine.specs.declared.ReadAnswer.{ReadAnswer}
-use Rattle.machine.specs.Tests.{if_then_else_, _▷_}
+use Rattle.machine.specs.Tests.{_▷_}
 use Rattle.machine.specs.Heap.{Heap}
 use Rattle.machine.specs.Entry.{numbersFit, lengthsFit, fits, entry, holderPlace}
-use Rattle.machine.specs.Answers.{refuse, done, unless}
+use Rattle.machine.specs.Answers.{unless}
 use Rattle.machine.specs.Units.{stopped}
 use Rattle.machine.specs.Format.{formatted, format}
 use Rattle.machine.specs.Read.{readRefusal, readAnswer, read}
@@ -28,25 +29,31 @@ use Rattle.machine.specs.Field.{fieldBlock, fieldRefusal, readField, storeField
 use Rattle.machine.specs.Work.{countRefusal, worked, work}
 use Rattle.machine.specs.Audit.{audit}
 use Rattle.machine.specs.Tell.{tellState}
+use Rattle.machine.specs.Image.{decode}
+use Rattle.machine.specs.Save.{save}
+use Rattle.machine.specs.Load.{loadRefusal, load}
 use Rattle.machine.specs.WellFormed.{WellFormed}
 use Rattle.machine.specs.Session.{Call, plainly, does}
 use Rattle.machine.specs.Session.Call.{Format, Read, Look, StoreNumber, StoreReference, SetRoot, Allocate, Work, Audit}
-use Rattle.machine.specs.Session.Call.{AllocateChain, ReadField, StoreFieldNumber, StoreFieldReference, State}
+use Rattle.machine.specs.Session.Call.{AllocateChain, ReadField, StoreFieldNumber, StoreFieldReference, State, Save, Load}
 use Rattle.machine.proofs.Tests.{both-true, if-ind}
 use Rattle.machine.proofs.Entering.{first-zero}
 use Rattle.machine.proofs.Allocating.{holder-zero}
+use Rattle.machine.proofs.Images.{image-passes}
+use Rattle.machine.proofs.Saving.{refusal-zero}
+use Rattle.theory_audit.proofs.Audit.{audit-meaning}
 use Rattle.theory_promises.specs.Deeds.{aNumber, aReference, aRoot, aTake, acted, aUnit, anAct, deed, after, AllAllowed}
-use Rattle.theory_promises.specs.Plans.{acting, nothing, anewUnless, actsUnless, formActs, severalActs, plan, deeds, Resets}
+use Rattle.theory_promises.specs.Plans.{acting, nothing, actsUnless, formActs, severalActs, plan, deeds, Resets}
 use Rattle.theory_promises.specs.Known.{Keeps, Known}
 use Rattle.theory_promises.proofs.Viewing.{wf-shape}
 use Rattle.theory_promises.proofs.TakingMoves.{take-sound}
 use Rattle.theory_promises.proofs.FreshHeap.{fresh-formed}
 use Rattle.theory_promises.proofs.RunMoves.{units-worked}
-use Rattle.theory_promises.proofs.Planning.{allowed-append, units-allowed, on-test, quiet, acts-once, by-units, by-none, by-acts}
+use Rattle.theory_promises.proofs.Planning.{allowed-append, units-allowed, quiet, made-anew, acts-once, by-units, by-none, by-acts}
 use Rattle.theory_promises.proofs.FirstFrees.{several}
 use Rattle.theory_promises.proofs.Serving.{Orderly, served, form-takes, chain-orderly}
 use Rattle.theory_promises.proofs.Fielding.{field-fine, field-allowed, field-store-fine, field-store-allowed}
-use Rattle.theory_promises.proofs.Refusing.{length-fine, Fine, small, fine-then, entry-fine, place-fine, count-fine, read-fine, store-fine, root-fine, take-wants}
+use Rattle.theory_promises.proofs.Refusing.{length-fine, save-fine, load-fine, Fine, small, fine-then, entry-fine, place-fine, count-fine, read-fine, store-fine, root-fine, take-wants}
 
 -- the numbers that fit
 fit-numbers : (m u lw lc lb : ℕ) → fits m u lw lc lb ≡ true → (1 ≤ m) × (m ≤ 16384) × (u ≤ 65535)
@@ -60,19 +67,24 @@ fit-numbers m u lw lc lb e =
 format-known : (m u : ℕ) (h : Heap) → Known (Format m u) h
 unfolding plan does format
 format-known m u h =
-    on-test (λ (t : Bool). Keeps (anewUnless ((if t then done 0 (formatted m u) else refuse 1 h) .answer .refusal)) h (if t then done 0 (formatted m u) else refuse 1 h))
-    (fits m u (length (h .words)) (length (h .colours)) (length (h .bytes)))
-    (λ t.
-    record {
-      anew = λ z. let n = fit-numbers m u _ _ _ t in fresh-formed m u (n .0) (n .1) (n .2);
-      whole = λ z. absurd (z refl);
-      allowed = tt;
-      paid = omega arith;
-      few = omega arith;
-      undamaged = λ z. absurd (omega arith);
-      wanting = λ z. absurd (omega arith);
-    })
-    (λ t. quiet 0 h (refuse 1 h) refl (small 1 (omega arith)))
+    made-anew (fits m u (length (h .words)) (length (h .colours)) (length (h .bytes))) 1 h (formatted m u)
+    (λ t. let n = fit-numbers m u _ _ _ t in fresh-formed m u (n .0) (n .1) (n .2)) (λ t. refl) (small 1 (omega arith))
+
+-- "Loading accepts exactly the images of well-formed heaps": what is loaded passes the audit
+load-known : (i : List ℕ) (h : Heap) → Known (Load i) h
+unfolding plan does load unless
+load-known i h =
+    let r = loadRefusal i h in
+    made-anew (eqb r 0) r h (decode i)
+    (λ t. audit-meaning (decode i) .0 (image-passes i (refusal-zero i h (eqb-true r 0 t) .0))) (λ t. t) (load-fine i h)
+
+pub load-formed : (i : List ℕ) (h : Heap) → does (Load i) h .answer .refusal ≡ 0 → WellFormed (does (Load i) h .heap)
+unfolding plan does
+load-formed i h e = load-known i h .anew (rw e refl)
+
+save-known : (out : List ℕ) (h : Heap) → Known (Save out) h
+unfolding plan does save
+save-known out h = quiet 0 h _ refl (save-fine (length out) h)
 
 module _ (h : Heap) (f : WellFormed h) where
   read-answer : (b w : ℕ) → Fine (read b w h .answer .refusal)
@@ -170,6 +182,8 @@ known (StoreFieldReference b k t) h f =
 known (Work n) h f = work-known h f n
 known Audit h f = quiet 0 h (audit h) refl (small 0 (omega arith))
 known (State b) h f = state-known h f b
+known (Save out) h f = save-known out h
+known (Load i) h f = load-known i h
 
 module _ (h : Heap) (f : WellFormed h) (c : Call) where
   pub calls-are-deeds : (Resets c h → ⊥) → does c h .heap ≡ after (deeds c h) h

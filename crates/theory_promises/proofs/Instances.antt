@@ -3,6 +3,8 @@
 --     works-good               allocations that the test accepts meet demand 3's premises
 --     freed                    a block out of reach is freed by a cycle
 --     survives                 a block out of reach that is stored as a target within the cycle is not
+--     replaced, restored       a Load that answers 0 puts another heap in place of one; demand 2 holds from what it loaded
+--     crowded                  demand 3 asks that no heap be loaded
 --     new-chain                a chain of three blocks reads 0 in 21 fields
 --     hand-arithmetic          cases 12 and 13 of document 01
 --     chains-good              chains that the test accepts meet them
@@ -30,20 +32,21 @@ use Rattle.machine.specs.Allocate.{unitsDue, takeRefusal}
 use Rattle.machine.specs.Several.{firstFrees, takeSeveralRefusal}
 use Rattle.machine.specs.Chain.{chain, chainLength}
 use Rattle.machine.specs.Session.{does, session}
-use Rattle.machine.specs.Session.Call.{Allocate, AllocateChain, Work}
+use Rattle.machine.specs.Session.Call.{Allocate, AllocateChain, Work, Load}
 use Rattle.machine.specs.WellFormed.{Block}
 use Rattle.machine.proofs.Tests.{both-true, either-true, if-ind, clash}
 use Rattle.machine.proofs.Computing.{the-machine}
 use Rattle.theory_audit.proofs.Words.{names-member}
 use Rattle.theory_promises.specs.Reachable.{Reachable, isRoot, isNamed, IsFree}
 use Rattle.theory_promises.specs.Deeds.{Act, acted, Deed, aUnit, anAct, deed, after}
-use Rattle.theory_promises.specs.Plans.{formActs, plan, deeds, asks}
+use Rattle.theory_promises.specs.Plans.{formActs, plan, deeds, Resets, asks}
 use Rattle.theory_promises.specs.Sessions.{NoReset, sessionDeeds, Proper, NoBegin, FreedBy, now, later}
 use Rattle.theory_promises.specs.Demand3.{cycles, Good, Premises, Asking}
 use Rattle.theory_promises.specs.Instances.{fresh, leaving, before, left, plain, Freed, Survives, HandArithmetic, within, allWithin}
 use Rattle.theory_promises.specs.Instances.{namesWithin, closes, pair, goesOn, works, churn, byTurns, rooted, long, Roomy}
-use Rattle.theory_promises.specs.Instances.{NewChain, chains, trio, chainsWork, RoomyChains}
+use Rattle.theory_promises.specs.Instances.{empty, holding, Replaced, savedImage, loaded, Restored, full, Crowded, NewChain, chains, trio, chainsWork, RoomyChains}
 use Rattle.theory_promises.proofs.FreshHeap.{fresh-formed}
+use Rattle.theory_promises.proofs.Losing.{nothing-lost}
 use Rattle.theory_promises.proofs.Collecting.{garbage-goes}
 use Rattle.theory_promises.proofs.FreshChains.{fresh-chains}
 use Rattle.theory_promises.proofs.Rooming.{room-for, margin-for}
@@ -232,6 +235,51 @@ survives =
       improper = λ r. alone (closes-has (deed aUnit left) (2 ∷ []) refl r);
       white = refl;
       kept = λ f. never-freed f refl;
+    }
+
+pub replaced : Replaced
+unfolding the-machine plan
+replaced =
+    record {
+      reached = isRoot refl (omega arith);
+      answered = refl;
+      gone = record { block = record { low = omega arith; high = omega arith }; colour = refl };
+      reset = refl;
+    }
+
+loaded-is : loaded ≡ holding
+unfolding the-machine
+loaded-is = refl
+
+loaded-reached : Reachable loaded 2
+unfolding the-machine
+loaded-reached = isRoot refl (omega arith)
+
+work-unreset : (n : ℕ) (h : Heap) → Resets (Work n) h → ⊥
+unfolding plan
+work-unreset n h e = clash e refl
+
+pub restored : Restored
+unfolding the-machine
+restored =
+    record {
+      saved = refl;
+      answered = refl;
+      same = loaded-is;
+      reached = loaded-reached;
+      spared = λ n j.
+          nothing-lost .everywhere empty (fresh-formed 2 1 (omega arith) (omega arith) (omega arith)) (Load savedImage ∷ []) (Work n) (work-unreset n loaded) .kept 2 loaded-reached j;
+    }
+
+pub crowded : Crowded
+unfolding the-machine plan cycles within allWithin namesWithin closes
+crowded =
+    record {
+      answered = refl;
+      good = ((tt, record { list = []; short = omega arith; has = λ b r. closes-has full [] refl r }), tt);
+      asking = (omega arith, tt);
+      fits = omega arith;
+      wanting = refl;
     }
 
 pub new-chain : NewChain

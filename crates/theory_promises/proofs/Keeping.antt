@@ -8,7 +8,7 @@ use Rattle.machine.specs.WellFormed.{WellFormed}
 use Rattle.machine.specs.Session.{Call, does, session}
 use Rattle.theory_promises.specs.Demand2.{CallsKeep}
 use Rattle.theory_promises.proofs.FreshHeap.{fresh-formed}
-use Rattle.theory_promises.proofs.Calls.{known}
+use Rattle.theory_promises.proofs.Calls.{load-formed, known}
 use Rattle.theory_promises.proofs.Courses.{call-formed}
 
 pub session-formed : (cs : List Call) (h : Heap) → WellFormed h → WellFormed (session cs h)
@@ -20,6 +20,7 @@ pub calls-keep : CallsKeep
 calls-keep =
     record {
       fresh = fresh-formed;
+      loaded = load-formed;
       formed = λ c h f. call-formed h f c;
       sessions = session-formed;
       undamaged = λ c h f. known c h f .undamaged;

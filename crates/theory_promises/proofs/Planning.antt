@@ -4,6 +4,7 @@
 --     map-append               the deeds of acts one list after another
 --     on-test                  what holds by a test, where it came out true and where it came out false
 --     quiet                    a call that changes nothing
+--     made-anew                a call that is refused or makes the heap anew
 --     acts-once                a call that is refused or does one act that takes nothing
 --     by-units                 a call that is refused or does units first: what is left to show is what it does after them
 --     by-none, by-acts         which is nothing, or acts that may be refused then
@@ -25,7 +26,7 @@ use Rattle.machine.specs.Allocate.{unitsDue}
 use Rattle.machine.specs.WellFormed.{WellFormed}
 use Rattle.machine.proofs.Tests.{clash}
 use Rattle.theory_promises.specs.Deeds.{Act, acted, Allows, takes, Deed, aUnit, anAct, deed, after, AllAllowed, takesIn}
-use Rattle.theory_promises.specs.Plans.{acting, nothing, actUnless, actsUnless, unitsUnless}
+use Rattle.theory_promises.specs.Plans.{acting, nothing, anewUnless, actUnless, actsUnless, unitsUnless}
 use Rattle.theory_promises.specs.Known.{Keeps}
 use Rattle.theory_promises.proofs.RunMoves.{run-is}
 use Rattle.theory_promises.proofs.Refusing.{Fine}
@@ -79,6 +80,24 @@ quiet n h g e r =
       undamaged = r .eight;
       wanting = λ z. absurd (r .seven z);
     }
+
+-- a call that makes the heap k, by a test
+pub made-anew : (t : Bool) (r : ℕ) (h k : Heap) → (t ≡ true → WellFormed k) → (t ≡ false → eqb r 0 ≡ false) → Fine r
+    → Keeps (anewUnless ((if t then done 0 k else refuse r h) .answer .refusal)) h (if t then done 0 k else refuse r h)
+made-anew t r h k f n x =
+    on-test (λ (t : Bool). Keeps (anewUnless ((if t then done 0 k else refuse r h) .answer .refusal)) h (if t then done 0 k else refuse r h)) t
+    (λ e.
+    record {
+      anew = λ z. f e;
+      whole = λ z. absurd (z refl);
+      allowed = tt;
+      paid = omega arith;
+      few = omega arith;
+      undamaged = λ z. absurd (omega arith);
+      wanting = λ z. absurd (omega arith);
+    })
+    (λ e.
+    subst (λ (b : Bool). Keeps (record { anew = b; asked = 0; units = 0; acts = [] }) h (refuse r h)) (sym (n e)) (quiet 0 h (refuse r h) refl x))
 
 pub acts-once : (r : ℕ) (a : Act) (h : Heap) → takes a ≡ 0 → (r ≡ 0 → Allows a h) → Fine r → Keeps (actUnless r a) h (unless r h (done 0 (acted a h)))
 unfolding unless after deed

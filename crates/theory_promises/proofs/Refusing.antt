@@ -1,8 +1,9 @@
 -- The refusals on a well-formed heap: none is 8, and 7 is the free list's alone.
 --     Fine r                   the refusal number r is neither 7 nor 8
---     small                    every number below 7 is fine
+--     small, large             every number below 7 is fine, and every number past 8
 --     fine-if, fine-then       a choice of two, and the first of two
 --     entry-fine, word-fine, place-fine, goal-fine, holder-fine, target-fine, count-fine, length-fine     the tests one by one
+--     save-fine, load-fine     those of Save and Load, on any heap
 --     read-fine, store-fine, root-fine     those of the calls that take nothing
 --     take-wants               an allocation is refused by 7 only where no block is free
 -- Assumes nothing.
@@ -10,8 +11,10 @@ use Prim.Native.Nat.{ℕ, _<_}
 use mathlib.Core.Path.{_≡_}
 use mathlib.Core.Logic.{_≢_}
 use mathlib.Core.Bool.{Bool, _&&_}
+use mathlib.Core.List.{List}
 use native.Mathlib.Omega.{arith}
 use lib.Dec.{eqb, leb}
+use lib.ListN.{length}
 use borrow.Author.Tests.{eqb-true}
 use Rattle.machine.specs.declared.State.{State}
 use Rattle.machine.specs.declared.State.the-variants.{LiveWhite, Doomed, Grey, Black, Free, Outside}
@@ -19,12 +22,16 @@ use Rattle.machine.specs.Tests.{if_then_else_, _▷_}
 use Rattle.machine.specs.Block.{isBlock}
 use Rattle.machine.specs.Heap.{Heap}
 use Rattle.machine.specs.State.{stateOf, refusalOf, holderRefusal, targetRefusal}
-use Rattle.machine.specs.Entry.{entry, wordRefusal, holderPlace, targetPlace, isBlockOrNone}
+use Rattle.machine.specs.Entry.{heapFits, entry, wordRefusal, holderPlace, targetPlace, isBlockOrNone}
 use Rattle.machine.specs.Read.{readRefusal}
 use Rattle.machine.specs.Store.{storeRefusal, rootRefusal}
 use Rattle.machine.specs.Allocate.{takeRefusal}
 use Rattle.machine.specs.Chain.{chainLength}
 use Rattle.machine.specs.Work.{countRefusal}
+use Rattle.machine.specs.Audit.{passes}
+use Rattle.machine.specs.Image.{encode, decode, isImage}
+use Rattle.machine.specs.Save.{saveRefusal}
+use Rattle.machine.specs.Load.{sameLengths, loadRefusal}
 use Rattle.machine.specs.WellFormed.{Block}
 use Rattle.machine.proofs.Tests.{if-ind, by-eq}
 use Rattle.machine.proofs.Entering.{ready-entry, none-or-block}
@@ -39,6 +46,9 @@ pub record Fine (r : ℕ) : Type 0 where
 pub small : (r : ℕ) → r < 7 → Fine r
 small r l = record { seven = λ z. absurd (omega arith); eight = λ z. absurd (omega arith) }
 
+pub large : (r : ℕ) → 8 < r → Fine r
+large r l = record { seven = λ z. absurd (omega arith); eight = λ z. absurd (omega arith) }
+
 pub fine-if : (t : Bool) {a b : ℕ} → Fine a → Fine b → Fine (if t then a else b)
 fine-if t a b = if-ind Fine t (λ e. a) (λ e. b)
 
@@ -48,11 +58,24 @@ fine-then a b p q = if-ind Fine (eqb a 0) (λ t. q (eqb-true a 0 t)) (λ t. p)
 
 pub count-fine : (n : ℕ) → Fine (countRefusal n)
 unfolding countRefusal
-count-fine n = fine-if (leb n 65535) (small 0 (omega arith)) (record { seven = λ z. absurd (omega arith); eight = λ z. absurd (omega arith) })
+count-fine n = fine-if (leb n 65535) (small 0 (omega arith)) (large 9 (omega arith))
 
 pub length-fine : (n : ℕ) → Fine (chainLength n)
 unfolding chainLength
 length-fine n = fine-if (leb 1 n && leb n 256) (small 0 (omega arith)) (small 3 (omega arith))
+
+pub load-fine : (i : List ℕ) (h : Heap) → Fine (loadRefusal i h)
+unfolding loadRefusal
+load-fine i h =
+    fine-then _ _ (fine-if (isImage i) (small 0 (omega arith)) (large 10 (omega arith)))
+    (λ e. fine-if (sameLengths h (decode i)) (small 0 (omega arith)) (large 13 (omega arith)))
+
+pub save-fine : (n : ℕ) (h : Heap) → Fine (saveRefusal n h)
+unfolding saveRefusal
+save-fine n h =
+    fine-then _ _ (fine-if (heapFits h) (small 0 (omega arith)) (small 1 (omega arith)))
+    (λ e. fine-then _ _ (fine-if (passes h) (small 0 (omega arith)) (large 10 (omega arith)))
+    (λ q. fine-if (leb (length (encode h)) n) (small 0 (omega arith)) (large 13 (omega arith))))
 
 pub word-fine : (m b w : ℕ) → Fine (wordRefusal m b w)
 unfolding wordRefusal

@@ -23,7 +23,7 @@ use Rattle.machine.specs.WellFormed.{WellFormed}
 use Rattle.machine.specs.Format.{formatted}
 use Rattle.machine.specs.Session.{Call, does, session}
 use Rattle.machine.specs.Session.Call.{Format, Read, Look, StoreNumber, StoreReference, SetRoot, Allocate, Work, Audit}
-use Rattle.machine.specs.Session.Call.{AllocateChain, ReadField, StoreFieldNumber, StoreFieldReference, State}
+use Rattle.machine.specs.Session.Call.{AllocateChain, ReadField, StoreFieldNumber, StoreFieldReference, State, Save, Load}
 use Rattle.machine.proofs.Tests.{by-eq}
 use Rattle.machine.proofs.Rounding.{round-enough}
 use Rattle.theory_moves.specs.Heaps.{Sound}
@@ -223,6 +223,8 @@ asks-one (StoreFieldReference b k t) h s = omega arith
 asks-one (Work n) h s = omega arith
 asks-one Audit h s = omega arith
 asks-one (State b) h s = omega arith
+asks-one (Save out) h s = omega arith
+asks-one (Load i) h s = omega arith
 
 asking-one : (cs : List Call) (h : Heap) → Singles cs → Asking 1 cs h
 asking-one [] h s = tt

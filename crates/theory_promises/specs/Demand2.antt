@@ -1,5 +1,5 @@
 -- Demand 2, as statements about the calls.
---     CallsKeep            a formatted heap is well-formed; every call keeps a well-formed heap so, and none answers 8
+--     CallsKeep            a formatted heap and a loaded one are well-formed; every call keeps a well-formed heap so, and none answers 8
 --     TouchesCall c h b w  the call c on h writes word w of b: a store into b, or an allocation held by b, that isn't refused
 --     Safe c h             what the call c leaves of the blocks reachable before it
 --     NothingLost          every call at every point of every session is Safe
@@ -7,7 +7,8 @@
 --     ChangesRoot c h, Untouched cs h bs     the call changes the root; no call of the session touches the root or the blocks bs
 --     ChainsLast           a chain from the root that no call touches stays, block by block and word by word
 --     GarbageGoes          "An allocated block out of reach when a cycle starts has been freed by that cycle's end"
--- A session starts from any heap that the audit accepts, a fresh one among them (`audit-means`, `fresh`).
+-- A session starts from any heap that the audit accepts, a fresh one and a loaded one among them (`audit-means`, `fresh`, `loaded`).
+-- "Loading over a heap is set apart in demand 2 as Format is, and a cycle it breaks off has no end": `Resets` and `NoReset` say so.
 -- Assumes nothing.
 use Prim.Native.Nat.{ℕ, _≤_}
 use mathlib.Core.Path.{_≡_}
@@ -19,6 +20,7 @@ use Rattle.machine.specs.Heap.{Heap}
 use Rattle.machine.specs.WellFormed.{Block, Live, Names, WellFormed}
 use Rattle.machine.specs.Format.{formatted}
 use Rattle.machine.specs.Session.{Call, does, session}
+use Rattle.machine.specs.Session.Call.{Load}
 use Rattle.theory_promises.specs.Reachable.{Reachable, IsFree, SameWord}
 use Rattle.theory_promises.specs.Deeds.{Written, RootSet, Deed, aUnit, deed, after}
 use Rattle.theory_promises.specs.Plans.{plan, deeds, Resets}
@@ -27,12 +29,14 @@ use Rattle.theory_promises.specs.Sessions.{NoReset, sessionDeeds, Proper
 -- "On a well-formed heap no call answers 8, and every call leaves it well-formed."
 pub record CallsKeep : Type 0 where
   pub fresh : (m u : ℕ) → 1 ≤ m → m ≤ 16384 → u ≤ 65535 → WellFormed (formatted m u)
+  -- whatever the buffers held, and the registers
+  pub loaded : (i : List ℕ) (h : Heap) → does (Load i) h .answer .refusal ≡ 0 → WellFormed (does (Load i) h .heap)
   pub formed : (c : Call) (h : Heap) → WellFormed h → WellFormed (does c h .heap)
   pub sessions : (cs : List Call) (h : Heap) → WellFormed h → WellFormed (session cs h)
   pub undamaged : (c : Call) (h : Heap) → WellFormed h → does c h .answer .refusal ≢ 8
 
 -- "only a store into it, or an allocation held by it, changes its words": a word that an act of the call writes, of a block that was
--- allocated before. A refused call has no acts; its units touch nothing. A Format that answers 0 touches everything.
+-- allocated before. A refused call has no acts; its units touch nothing. A Format or a Load that answers 0 touches everything.
 abbrev pub TouchesCall : Call → Heap → ℕ → ℕ → Type 0
 TouchesCall c h b w = Resets c h ⊎ ((IsFree h b → ⊥) × Written (plan c h .acts) b w)
 
@@ -55,7 +59,7 @@ pub data Chain (h : Heap) : ℕ → List ℕ → Type 0 where
   last : {b : ℕ} → Chain h b []
   onto : {b c : ℕ} {bs : List ℕ} → Names h b c → c ≢ 0 → Chain h c bs → Chain h b (c ∷ bs)
 
--- a call that changes the root: Set root, or an allocation held by the root, that isn't refused; a Format that answers 0
+-- a call that changes the root: Set root, or an allocation held by the root, that isn't refused; a Format or a Load that answers 0
 abbrev pub ChangesRoot : Call → Heap → Type 0
 ChangesRoot c h = Resets c h ⊎ RootSet (plan c h .acts)
 

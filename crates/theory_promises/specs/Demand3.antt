@@ -11,8 +11,8 @@
 --     EachOne              sessions of such calls ask for one block at most: those of document 01's nine calls among them
 --     RoomEnough           "no allocation is refused for want of room", where calls ask for one block at most
 --     Margin               the free count after every call is at least M - K - 2N there
--- A fresh heap is `formatted m u`. Sessions are any calls with any arguments, refused ones among them, without a further Format that
--- answers 0. RoomEnough and Margin are the case B = 1, which is that of document 01.
+-- A fresh heap is `formatted m u`. Sessions are any calls with any arguments, refused ones among them, without a further Format
+-- or a Load that answers 0. RoomEnough and Margin are the case B = 1, which is that of document 01.
 -- Assumes nothing.
 use Prim.Native.Nat.{ℕ, _+_, _-_, _*_, _≤_}
 use mathlib.Core.Path.{_≡_}

@@ -7,6 +7,8 @@
 --     churn, works         allocations at the given holders in turn; after each at most two blocks are reachable, as a test that computes
 --     chains, chainsWork   chains of three blocks at the root; after each at most its three blocks are reachable, as a test that computes
 --     NewChain             a chain of three blocks on a fresh heap, as it is when it is new
+--     Replaced, Restored   a block reachable before a Load that answers 0 is free after it; one of a heap that was saved and is loaded again is kept
+--     Crowded              demand 3's premises, but that a heap is loaded: an allocation is refused for want of room
 --     Roomy                demand 3's premises, met by 200 allocations on 20 blocks with pace 5, and what follows
 --     RoomyChains          the same with B = 3, by 60 chains on 19 blocks with pace 6: K + 2N + B - 1 is M itself
 -- Assumes nothing.
@@ -16,21 +18,25 @@ use mathlib.Core.Logic.{_≢_}
 use mathlib.Core.Bool.{Bool, true, _&&_, _||_}
 use mathlib.Core.List.{List, [], _∷_, _++_}
 use lib.Dec.{eqb}
-use lib.ListN.{length}
+use lib.ListN.{length, take, replicate}
 use Rattle.machine.specs.declared.Colour.the-variants.{White}
 use Rattle.machine.specs.Registers.{idle}
 use Rattle.machine.specs.Block.{wordOf}
 use Rattle.machine.specs.Heap.{Heap, colourOf, referencesOf}
 use Rattle.machine.specs.Answers.{Given}
 use Rattle.machine.specs.Format.{formatted}
+use Rattle.machine.specs.Image.{encode}
+use Rattle.machine.specs.Frame.{imageLength}
+use Rattle.machine.specs.Save.{save}
 use Rattle.machine.specs.Session.{Call, does, session, lastOf}
 use Rattle.machine.specs.Field.{fieldBlock}
-use Rattle.machine.specs.Session.Call.{StoreReference, Allocate, AllocateChain, Work}
+use Rattle.machine.specs.Session.Call.{StoreReference, SetRoot, Allocate, AllocateChain, Work, Save, Load}
 use Rattle.theory_promises.specs.Reachable.{Reachable, IsFree}
 use Rattle.theory_promises.specs.Deeds.{aReference, aTake, Deed, aUnit, anAct, deed, after}
+use Rattle.theory_promises.specs.Plans.{deeds, Resets}
 use Rattle.theory_promises.specs.Sessions.{sessionDeeds, Proper, NoBegin, FreedBy}
 use Rattle.theory_promises.specs.Objects.{FreshChain}
-use Rattle.theory_promises.specs.Demand3.{cycles, Premises, Asking}
+use Rattle.theory_promises.specs.Demand3.{cycles, Good, Premises, Asking}
 
 abbrev pub fresh : Heap
 fresh = formatted 3 1
@@ -144,6 +150,47 @@ pub record Roomy : Type 0 where
   pub fits : 2 + 2 * cycles 20 5 ≤ 20
   pub room : (b w : ℕ) → does (Allocate b w) (session long (formatted 20 5)) .answer .refusal ≢ 7
   pub margin : 20 ≤ session long (formatted 20 5) .regs .count + 2 + 2 * cycles 20 5
+
+abbrev pub empty : Heap
+empty = formatted 2 1
+
+-- 2 at the root, and a cycle has started
+abbrev pub holding : Heap
+holding = session (Allocate 0 0 ∷ []) empty
+
+-- "Loading over a heap is set apart in demand 2 as Format is"
+pub record Replaced : Type 0 where
+  pub reached : Reachable holding 2
+  pub answered : does (Load (encode empty)) holding .answer .refusal ≡ 0
+  pub gone : IsFree (does (Load (encode empty)) holding .heap) 2
+  pub reset : Resets (Load (encode empty)) holding
+
+-- what Save writes to an output as long as the image
+abbrev pub savedImage : List ℕ
+savedImage = save (replicate (imageLength 2) 0) holding .out
+
+abbrev pub loaded : Heap
+loaded = session (Load savedImage ∷ []) empty
+
+-- "Demand 2 holds from a loaded heap": after any number of the units of any Work
+pub record Restored : Type 0 where
+  pub saved : does (Save (replicate (imageLength 2) 0)) holding .answer .refusal ≡ 0
+  pub answered : does (Load savedImage) empty .answer .refusal ≡ 0
+  pub same : loaded ≡ holding
+  pub reached : Reachable loaded 2
+  pub spared : (n j : ℕ) → IsFree (after (take j (deeds (Work n) loaded)) loaded) 2 → ⊥
+
+-- all ten blocks taken ahead of the sweep and let go: it has still to pass them, and none is free
+abbrev pub full : Heap
+full = session (AllocateChain 0 0 10 ∷ SetRoot 0 ∷ []) (formatted 10 5)
+
+-- "demand 3 doesn't, as its heap is fresh": all its other premises are met
+pub record Crowded : Type 0 where
+  pub answered : does (Load (encode full)) (formatted 10 5) .answer .refusal ≡ 0
+  pub good : Good 0 (Load (encode full) ∷ []) (formatted 10 5)
+  pub asking : Asking 1 (Load (encode full) ∷ []) (formatted 10 5)
+  pub fits : 0 + 2 * cycles 10 5 ≤ 10
+  pub wanting : lastOf (Load (encode full) ∷ []) (Allocate 0 0) (formatted 10 5) .answer .refusal ≡ 7
 
 pub record NewChain : Type 0 where
   pub answered : lastOf [] (AllocateChain 0 0 3) fresh .answer .refusal ≡ 0

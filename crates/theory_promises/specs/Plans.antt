@@ -27,9 +27,10 @@ use Rattle.machine.specs.Several.{Form, firstFrees, takeSeveralRefusal, holderO
 use Rattle.machine.specs.Chain.{chain, chainLength}
 use Rattle.machine.specs.Field.{fieldBlock, fieldRefusal, fieldStoreRefusal}
 use Rattle.machine.specs.Work.{countRefusal}
+use Rattle.machine.specs.Load.{load}
 use Rattle.machine.specs.Session.{Call}
 use Rattle.machine.specs.Session.Call.{Format, Read, Look, StoreNumber, StoreReference, SetRoot, Allocate, Work, Audit}
-use Rattle.machine.specs.Session.Call.{AllocateChain, ReadField, StoreFieldNumber, StoreFieldReference, State}
+use Rattle.machine.specs.Session.Call.{AllocateChain, ReadField, StoreFieldNumber, StoreFieldReference, State, Save, Load}
 use Rattle.theory_promises.specs.Deeds.{Act, aNumber, aReference, aRoot, aTake, Deed, aUnit, anAct, after}
 
 pub record Plan : Type 0 where
@@ -92,6 +93,8 @@ plan (StoreFieldReference b k t) h = actUnless (fieldStoreRefusal b k t h) (aRef
 plan (Work n) h = unitsUnless (entry h ▷ countRefusal n) 0 n (λ k. []) h
 plan Audit h = nothing 0
 plan (State b) h = nothing 0
+plan (Save out) h = nothing 0
+plan (Load i) h = anewUnless (load i h .answer .refusal)
 
 abbrev pub workedBy : Plan → Heap → Heap
 workedBy p h = after (replicate (p .units) aUnit) h
@@ -105,7 +108,7 @@ deeds c h = deedsOf (plan c h)
 abbrev pub worked : Call → Heap → Heap
 worked c h = workedBy (plan c h) h
 
--- a Format that answers 0
+-- a Format or a Load that answers 0
 abbrev pub Resets : Call → Heap → Type 0
 Resets c h = plan c h .anew ≡ true
 

@@ -5,7 +5,7 @@
 --     NoBegin ds h         no unit among the deeds starts a cycle
 --     FreedBy g ds h       some unit among the deeds frees g
 --     unitsIn ds, marksIn ds h     how many deeds are units, and how many of these take a block from the grey list
--- A session that formats the heap anew goes on from there as a session from a fresh heap.
+-- A session that formats the heap anew goes on from there as a session from a fresh heap, and one that loads a heap as one from that.
 -- Assumes nothing.
 use Prim.Native.Nat.{ℕ, _+_}
 use mathlib.Core.Path.{_≡_}

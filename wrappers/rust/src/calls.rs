@@ -87,6 +87,42 @@ writing! {
     export_objects = dergamoyne_export_objects(start, fields, link);
 }
 
+/// Save: the image of the heap to the front of out: 52 + 37M bytes. What is past the image stays as it was.
+pub fn save(regs: Regs, words: &[u32], colours: &[u32], bytes: &[u8], out: &mut [u8]) -> Answer {
+    // SAFETY: the pointers and lengths are those of live slices of the right types; out is lent to change, so it overlaps none of them.
+    unsafe {
+        raw::dergamoyne_save(
+            regs,
+            words.as_ptr(),
+            words.len(),
+            colours.as_ptr(),
+            colours.len(),
+            bytes.as_ptr(),
+            bytes.len(),
+            out.as_mut_ptr(),
+            out.len(),
+        )
+    }
+}
+
+/// Load: the record and the buffers become the heap of the image. What they held is not looked at.
+pub fn load(regs: &mut Regs, words: &mut [u32], colours: &mut [u32], bytes: &mut [u8], image: &[u8]) -> Answer {
+    // SAFETY: the pointers and lengths are those of live slices of the right types, which don't overlap.
+    unsafe {
+        raw::dergamoyne_load(
+            regs,
+            words.as_mut_ptr(),
+            words.len(),
+            colours.as_mut_ptr(),
+            colours.len(),
+            bytes.as_mut_ptr(),
+            bytes.len(),
+            image.as_ptr(),
+            image.len(),
+        )
+    }
+}
+
 /// The version of the library that is linked: 1,000,000 for each major, 1,000 for each minor, 1 for each patch.
 pub fn version() -> u32 {
     // SAFETY: it takes nothing and answers a number.

@@ -7,6 +7,10 @@ use std::fmt;
 /// The largest M.
 const MOST_BLOCKS: u32 = 16384;
 
+/// The bytes of an image that are of no block, and those of each block.
+const IMAGE_FIXED: usize = 52;
+const IMAGE_BLOCK: usize = 37;
+
 /// A heap of M blocks, with its record and its three buffers: 37M bytes of memory.
 #[derive(Clone, Debug)]
 pub struct Heap {
@@ -111,6 +115,26 @@ impl Heap {
     /// A call that may change the record and the buffers.
     fn changed<T>(&mut self, call: impl FnOnce(&mut Regs, &mut [u32], &mut [u32], &mut [u8]) -> T) -> T {
         call(&mut self.regs, &mut self.words, &mut self.colours, &mut self.bytes)
+    }
+
+    /// The heap of an image: exactly the one that was saved. Refusal 10 where the bytes are not the image of a well-formed heap, or
+    /// something comes after it. Panics where the library that is linked is of another version than this crate.
+    pub fn load(image: &[u8]) -> Result<Heap, Refused> {
+        assert!(calls::fits_library(), "libdergamoyne.a is of another version than this crate");
+        // Of a length that no image has nothing is lent: the call then refuses the image.
+        let n = image.len().saturating_sub(IMAGE_FIXED) / IMAGE_BLOCK;
+        let n = if n <= MOST_BLOCKS as usize { n } else { 0 };
+        let mut h = Heap { regs: Regs::default(), words: vec![0; 8 * n], colours: vec![0; n], bytes: vec![0; n] };
+        done(h.changed(|r, w, c, b| calls::load(r, w, c, b, image)))?;
+        Ok(h)
+    }
+
+    /// The image of the heap, for `load`.
+    pub fn save(&self) -> Vec<u8> {
+        let mut out = vec![0; IMAGE_FIXED + IMAGE_BLOCK * self.colours.len()];
+        let a = calls::save(self.regs, &self.words, &self.colours, &self.bytes, &mut out);
+        assert_eq!(a.refusal, 0, "a heap of this type is well-formed");
+        out
     }
 
     /// The register record.

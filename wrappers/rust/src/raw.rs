@@ -55,7 +55,7 @@ pub struct ExportAnswer {
 }
 
 /// The version of the library that this crate is for, as `dergamoyne_version` gives it.
-pub const VERSION: u32 = 4000;
+pub const VERSION: u32 = 5000;
 
 // The library is for processors with lengths of 64 bits.
 const _: () = assert!(std::mem::size_of::<usize>() == 8);
@@ -243,4 +243,26 @@ extern "C" {
         fields: u32,
         link: u32,
     ) -> ExportAnswer;
+    pub fn dergamoyne_save(
+        regs: Regs,
+        words: *const u32,
+        words_length: usize,
+        colours: *const u32,
+        colours_length: usize,
+        bytes: *const u8,
+        bytes_length: usize,
+        out: *mut u8,
+        out_length: usize,
+    ) -> Answer;
+    pub fn dergamoyne_load(
+        regs: *mut Regs,
+        words: *mut u32,
+        words_length: usize,
+        colours: *mut u32,
+        colours_length: usize,
+        bytes: *mut u8,
+        bytes_length: usize,
+        image: *const u8,
+        image_length: usize,
+    ) -> Answer;
 }

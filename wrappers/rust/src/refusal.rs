@@ -2,7 +2,7 @@
 use std::error::Error;
 use std::fmt;
 
-/// Why a call is refused, with document 01's number.
+/// Why a call is refused, with its number in documents 01 and 02.
 #[derive(Clone, Copy, Debug, PartialEq, Eq)]
 pub enum Refusal {
     DoesNotFit = 1,
@@ -14,17 +14,32 @@ pub enum Refusal {
     NoFreeBlock = 7,
     Damage = 8,
     TooManyUnits = 9,
+    NotWellFormed = 10,
+    OtherLength = 13,
 }
 
 impl Refusal {
     /// The refusal of a number; none for 0. Another number is none of the library's, and panics.
     pub fn of(number: u32) -> Option<Refusal> {
         use Refusal::*;
-        let all = [DoesNotFit, Registers, NoSuchWord, NoSuchTarget, BlockGone, TargetGone, NoFreeBlock, Damage, TooManyUnits];
-        (number != 0).then(|| all[number as usize - 1])
+        let all = [
+            DoesNotFit,
+            Registers,
+            NoSuchWord,
+            NoSuchTarget,
+            BlockGone,
+            TargetGone,
+            NoFreeBlock,
+            Damage,
+            TooManyUnits,
+            NotWellFormed,
+            OtherLength,
+        ];
+        let found = || *all.iter().find(|refusal| refusal.number() == number).expect("a refusal of the library's");
+        (number != 0).then(found)
     }
 
-    /// Document 01's number.
+    /// The documents' number.
     pub fn number(self) -> u32 {
         self as u32
     }
@@ -42,6 +57,8 @@ impl fmt::Display for Refusal {
             Refusal::NoFreeBlock => "too few blocks are free",
             Refusal::Damage => "the heap is damaged",
             Refusal::TooManyUnits => "too many units for one call",
+            Refusal::NotWellFormed => "the heap is not well-formed, or the bytes are not the image of a heap that is",
+            Refusal::OtherLength => "the output is too short for the image, or the buffers are not of its lengths",
         })
     }
 }

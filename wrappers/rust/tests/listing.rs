@@ -192,6 +192,48 @@ fn exports_of_objects() {
     assert_eq!(h.export_objects(&mut [0; 36], 2, 9, 7), Exported::Stopped(4, Reason::Circle));
 }
 
+/// A heap saved in mid-cycle and loaded is the same and goes on alike; images that are none; the calls over slices.
+#[test]
+fn images() {
+    let mut h = Heap::new(1, 1).unwrap();
+    h.allocate(0, 0).unwrap();
+    h.store_reference(2, 0, 2).unwrap();
+    h.store_number(2, 1, 0x01020304).unwrap();
+    let image = h.save();
+    let mut dump = [0; 89];
+    for (at, byte) in [(0, 9), (4, 1), (8, 1), (12, 1), (16, 1), (32, 2), (36, 1), (40, 1), (48, 1), (52, 1), (53, 8), (57, 2)] {
+        dump[at] = byte;
+    }
+    dump[44..48].fill(255);
+    dump[61..65].copy_from_slice(&[4, 3, 2, 1]);
+    assert_eq!(image, dump);
+    let mut spare = Heap::load(&image).unwrap();
+    assert_eq!((spare.regs(), spare.look(2)), (h.regs(), h.look(2)));
+    for heap in [&mut h, &mut spare] {
+        assert_eq!(heap.work(5), Ok(5));
+        assert!(heap.audit());
+    }
+    assert_eq!(h.save(), spare.save());
+    for length in 0..89 {
+        assert_eq!(Heap::load(&image[..length]).unwrap_err(), by(Refusal::NotWellFormed));
+    }
+    assert_eq!(Heap::load(&[&image[..], &[0]].concat()).unwrap_err(), by(Refusal::NotWellFormed));
+    let (mut regs, mut words, mut colours, mut bytes) = (Regs::default(), [7; 8], [7; 2], [7; 1]);
+    let mut load = |image: &[u8], colours: &mut [u32]| calls::load(&mut regs, &mut words, colours, &mut bytes, image).refusal;
+    assert_eq!((load(&image, &mut colours), load(&[], &mut colours)), (13, 10));
+    assert_eq!(load(&image, &mut colours[..1]), 0);
+    let mut out = [7; 91];
+    assert_eq!(calls::save(regs, &words, &colours[..1], &bytes, &mut out[..88]).refusal, 13);
+    assert_eq!(out, [7; 91]);
+    assert_eq!(calls::save(regs, &words, &colours[..1], &bytes, &mut out).refusal, 0);
+    assert_eq!((&out[..89], &out[89..]), (&image[..], &[7; 2][..]));
+    assert_eq!(calls::save(Regs { phase: 3, ..regs }, &words, &colours[..1], &bytes, &mut out).refusal, 10);
+    assert_eq!(calls::save(regs, &words, &colours, &bytes, &mut out).refusal, 1);
+    for n in [1, 2, 3, 4, 5, 6, 7, 8, 9, 10, 13] {
+        assert_eq!(Refusal::of(n).unwrap().number(), n);
+    }
+}
+
 /// Heaps in different threads don't meet.
 #[test]
 fn threads() {
@@ -215,6 +257,6 @@ fn threads() {
 /// The library is the one that the crate is for.
 #[test]
 fn version() {
-    assert_eq!(calls::version(), 4000);
+    assert_eq!(calls::version(), 5000);
     assert!(calls::fits_library());
 }

@@ -1,5 +1,5 @@
 -- `call_audit::block_passes` meets its contract. Assumes nothing.
-use mathlib.Core.Path.{refl}
+use mathlib.Core.Path.{refl, _∙_}
 use Rattle.machine.proofs.Parts.{part-is}
 use Rattle.machine.proofs.Passing.{block-as}
 use borrow.Author.Needs.{needs}
@@ -15,32 +15,35 @@ mul-at c = search needs
 add-end : tie.Need-add-end
 add-end c = search needs
 
+mul-part : tie.Need-mul-part
+mul-part c = search needs
+
+sub-part : tie.Need-sub-part
+sub-part c = search needs
+
+part-part-start : tie.Need-part-part-start
+part-part-start c = search needs
+
+part-part-end : tie.Need-part-part-end
+part-part-end c = search needs
+
+shared-slice-read-byte : tie.Need-shared-slice-read-byte
+shared-slice-read-byte c = search needs
+
 state-of-requires : tie.Need-state-of-requires
 state-of-requires c κs = search needs
 
-mul-state-passes : tie.Need-mul-state-passes
-mul-state-passes c = search needs
+ask-requires : tie.Need-ask-requires
+ask-requires c κs = search needs
 
-sub-state-passes : tie.Need-sub-state-passes
-sub-state-passes c = search needs
-
-part-state-passes-start : tie.Need-part-state-passes-start
-part-state-passes-start c = search needs
-
-part-state-passes-end : tie.Need-part-state-passes-end
-part-state-passes-end c = search needs
-
-shared-slice-read-state-passes : tie.Need-shared-slice-read-state-passes
-shared-slice-read-state-passes c = search needs
-
-state-passes-requires : tie.Need-state-passes-requires
-state-passes-requires c κs = search needs
+passes-asked-requires : tie.Need-passes-asked-requires
+passes-asked-requires c κs = search needs
 
 returns : tie.Need-returns
 returns c =
-    let c-state-of = c .before .before .before .state-of in
-    let c-args = c .before .before .before .before .before .before .before .args in
-    block-as _ _ _ _ _ (c-state-of .ensures (c-args .r) refl refl refl) (part-is (c-args .words .now) (c-args .b)) (c .state-passes .ensures)
+    let c-args = c .before .before .before .before .before .before .before .before .args in
+    block-as _ _ _ _ _ (c .before .before .state-of .ensures (c-args .r) refl refl refl) (part-is (c-args .words .now) (c-args .b))
+    (c .passes-asked .ensures ∙ c .before .ask .ensures (c-args .r) _ refl refl)
 
 pub block-passes-spec : {M : Type 1} → statement M
 block-passes-spec =
@@ -49,11 +52,12 @@ block-passes-spec =
     sub-i
     mul-at
     add-end
+    mul-part
+    sub-part
+    part-part-start
+    part-part-end
+    shared-slice-read-byte
     state-of-requires
-    mul-state-passes
-    sub-state-passes
-    part-state-passes-start
-    part-state-passes-end
-    shared-slice-read-state-passes
-    state-passes-requires
+    ask-requires
+    passes-asked-requires
     returns)

@@ -4,6 +4,7 @@ use Rattle.machine.specs.Field.{storeFieldReference}
 use Rattle.machine.proofs.Fields.{field-reference-keeps}
 use Rattle.call_field.proofs.store_field_reference.Symbol as core
 use Rattle.call_field.proofs.store_field_reference.Met as core-thm
+use Rattle.theory_lending.proofs.Copied.{numbers}
 use Rattle.theory_lending.proofs.Back.{grey, only}
 use Rattle.theory_lending.proofs.Outer.{lends}
 use Rattle.dergamoyne.proofs.dergamoyne_store_field_reference.Key.{name}
@@ -13,5 +14,5 @@ use Rattle.dergamoyne.proofs.dergamoyne_store_field_reference.Code as c
 pub dergamoyne-store-field-reference-spec : {M : Type 1} → statement M
 unfolding code.routine
 dergamoyne-store-field-reference-spec 𝓤 H 𝓜 𝓖 𝓡 =
-    lends 3 (λ m. storeFieldReference (m .0) (m .1 .0) (m .1 .1 .0)) (only (grey ∷ []) 3) (λ m h. field-reference-keeps (m .1 .1 .0) h (m .0) (m .1 .0)) core.name 𝓤 H 𝓜 𝓖 𝓡 code.env name (code.unfolded 𝓤 H 𝓜 𝓡)
+    lends (numbers 3) (λ m. storeFieldReference (m .0) (m .1 .0) (m .1 .1 .0)) (only (grey ∷ []) 3) (λ m h. field-reference-keeps (m .1 .1 .0) h (m .0) (m .1 .0)) core.name 𝓤 H 𝓜 𝓖 𝓡 code.env name (code.unfolded 𝓤 H 𝓜 𝓡)
     core.routine code.calls-call-field·store-field-reference (core-thm.met 𝓤 H 𝓜 𝓖 𝓡)

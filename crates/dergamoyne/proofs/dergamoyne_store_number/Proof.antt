@@ -2,6 +2,7 @@
 use Rattle.machine.specs.Store.{storeNumber}
 use Rattle.call_store.proofs.store_number.Symbol as core
 use Rattle.call_store.proofs.store_number.Met as core-thm
+use Rattle.theory_lending.proofs.Copied.{numbers}
 use Rattle.theory_lending.proofs.Back.{nothing}
 use Rattle.theory_lending.proofs.Outer.{lends}
 use Rattle.dergamoyne.proofs.Keeping.{number-keeps}
@@ -12,5 +13,5 @@ use Rattle.dergamoyne.proofs.dergamoyne_store_number.Code as code
 pub dergamoyne-store-number-spec : {M : Type 1} → statement M
 unfolding code.routine
 dergamoyne-store-number-spec 𝓤 H 𝓜 𝓖 𝓡 =
-    lends 3 (λ m. storeNumber (m .0) (m .1 .0) (m .1 .1 .0)) (nothing 3) (λ m h. number-keeps (m .0) (m .1 .0) (m .1 .1 .0) h) core.name 𝓤 H 𝓜 𝓖 𝓡 code.env name (code.unfolded 𝓤 H 𝓜 𝓡)
+    lends (numbers 3) (λ m. storeNumber (m .0) (m .1 .0) (m .1 .1 .0)) (nothing 3) (λ m h. number-keeps (m .0) (m .1 .0) (m .1 .1 .0) h) core.name 𝓤 H 𝓜 𝓖 𝓡 code.env name (code.unfolded 𝓤 H 𝓜 𝓡)
     core.routine code.calls-call-store·store-number (core-thm.met 𝓤 H 𝓜 𝓖 𝓡)

@@ -29,8 +29,11 @@ mul-words c = search needs
 slice-write-words : tie.Need-slice-write-words
 slice-write-words c = search needs
 
-colour-new-requires : tie.Need-colour-new-requires
-colour-new-requires c κs = search needs
+new-colour-requires : tie.Need-new-colour-requires
+new-colour-requires c κs = tt
+
+paint-requires : tie.Need-paint-requires
+paint-requires c κs = search needs
 
 same-length : tie.Need-same-length
 same-length c = search needs
@@ -39,7 +42,10 @@ same-length-2 : tie.Need-same-length-2
 same-length-2 c = search needs
 
 returns : tie.Need-returns
-returns c = λ bs. taken-as _ _ _ refl refl refl (c .before .before .colour-new .ensures)
+returns c =
+    let c-new-colour = c .before .before .before .before .new-colour in
+    let c-paint = c .before .before .paint in
+    λ bs. taken-as _ _ _ refl refl (c-new-colour .ensures _ refl refl) (c-paint .ensures)
 
 pub take-spec : {M : Type 1} → statement M
 take-spec =
@@ -53,7 +59,8 @@ take-spec =
     sub-s
     mul-words
     slice-write-words
-    colour-new-requires
+    new-colour-requires
+    paint-requires
     same-length
     same-length-2
     returns)

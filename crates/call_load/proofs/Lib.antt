@@ -1,0 +1,2 @@
+-- Laws of an image read into lent buffers.
+pub mod Loading

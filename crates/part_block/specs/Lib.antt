@@ -1,0 +1,2 @@
+-- What the audit still asks of a block.
+pub mod Asked

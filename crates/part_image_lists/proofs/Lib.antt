@@ -1,0 +1,2 @@
+-- Laws of bytes laid out as an image.
+pub mod Laid

@@ -1,0 +1,2 @@
+-- What the code that audits an image asks of its bytes.
+pub mod Laid

@@ -1,0 +1,3 @@
+-- What saving and loading a heap promise, proved, and an instance.
+pub mod Images
+pub mod Instances

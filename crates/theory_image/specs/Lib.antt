@@ -1,0 +1,2 @@
+-- What saving and loading a heap promise.
+pub mod Images

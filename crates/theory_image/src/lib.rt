@@ -1,0 +1,1 @@
+// What saving and loading a heap promise: statements and proofs, no code.
