@@ -5,6 +5,9 @@ use machine::State;
 ghost use mathlib.Core.Path.{_≡_};
 ghost use Prim.Native.Nat.{_≤_};
 ghost use Rattle.machine.specs.declared.Regs.{Regs};
+ghost use lib.Dec.{eqb};
+ghost use Rattle.machine.specs.Tests.{if_then_else_};
+ghost use Rattle.machine.specs.Registers.{marking, sweeping};
 ghost use Rattle.machine.specs.WellFormed.{Block};
 ghost use Rattle.machine.specs.Colouring.{coloured, CellsFit};
 ghost use Rattle.machine.specs.State.{ahead, stateFrom, stateIn, mayBeBlack, newColour};
@@ -58,11 +61,26 @@ pub fn may_be_black(phase: u32, position: u32, b: u32) -> bool
     phase == machine::MARKING || ahead(phase, position, b)
 }
 
+// Above every number of a block.
+const NO_NUMBER: u64 = 4_294_967_296;
+
+// From which number on a block may be black: all of them while marking, those that the sweep has not reached yet, none when idle. A
+// loop that takes several blocks works this out once.
+fn black_from(phase: u32, position: u32) -> u64
+    ensures { λ n. ⌜ n ≡ (if eqb phase marking then 0 else if eqb phase sweeping then position else 4_294_967_296) ⌝ }
+{
+    match phase {
+        machine::MARKING => 0,
+        machine::SWEEPING => position as u64,
+        _ => NO_NUMBER,
+    }
+}
+
 // The colour of the new block b.
 pub fn new_colour(phase: u32, position: u32, b: u32) -> Colour
     ensures { λ c. ⌜ ((r : Regs) → r .phase ≡ phase → r .position ≡ position → c ≡ newColour r b) ⌝ }
 {
-    if may_be_black(phase, position, b) {
+    if black_from(phase, position) <= b as u64 {
         return Colour::Black;
     }
     Colour::White

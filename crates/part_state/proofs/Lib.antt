@@ -1,0 +1,2 @@
+-- What is proved beside the functions' own proofs.
+pub mod First
