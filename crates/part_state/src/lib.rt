@@ -54,13 +54,6 @@ pub fn state_of(m: u32, phase: u32, position: u32, colours: &[u32], b: u32) -> S
     state_from(phase, position, b, part_colours::colour_of(m, colours, b))
 }
 
-// Whether the block b may be black.
-pub fn may_be_black(phase: u32, position: u32, b: u32) -> bool
-    ensures { λ x. ⌜ ((r : Regs) → r .phase ≡ phase → r .position ≡ position → x ≡ mayBeBlack r b) ⌝ }
-{
-    phase == machine::MARKING || ahead(phase, position, b)
-}
-
 // Above every number of a block.
 const NO_NUMBER: u64 = 4_294_967_296;
 
@@ -76,11 +69,18 @@ fn black_from(phase: u32, position: u32) -> u64
     }
 }
 
+// Whether the block b may be black.
+pub fn may_be_black(phase: u32, position: u32, b: u32) -> bool
+    ensures { λ x. ⌜ ((r : Regs) → r .phase ≡ phase → r .position ≡ position → x ≡ mayBeBlack r b) ⌝ }
+{
+    black_from(phase, position) <= b as u64
+}
+
 // The colour of the new block b.
 pub fn new_colour(phase: u32, position: u32, b: u32) -> Colour
     ensures { λ c. ⌜ ((r : Regs) → r .phase ≡ phase → r .position ≡ position → c ≡ newColour r b) ⌝ }
 {
-    if black_from(phase, position) <= b as u64 {
+    if may_be_black(phase, position, b) {
         return Colour::Black;
     }
     Colour::White
