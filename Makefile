@@ -1,6 +1,6 @@
 # make            proves the library and builds the archive target/staticlib/libdergamoyne.a (the first time it takes minutes)
 # make check      tests the library from C
-# make example    builds examples/c/list.c, examples/c/objects.c and examples/c/spare.c in target/c and runs them
+# make example    builds the examples list, objects, spare and why of examples/c in target/c and runs them
 # make install    installs headers, archive, pkg-config file and manual page under PREFIX (/usr/local unless you set it); DESTDIR is put
 #                 before it
 # make uninstall  removes them again
@@ -28,6 +28,7 @@ example: $(archive)
 	bash examples/c/run list
 	bash examples/c/run objects
 	bash examples/c/run spare
+	bash examples/c/run why
 
 target/dergamoyne.pc: docs/dergamoyne.pc.in include/dergamoyne.h Makefile
 	mkdir -p target

@@ -17,6 +17,9 @@ enum { IDLE, MARKING, SWEEPING };
 /* Colour words; LAST is that of the last grey block. */
 static const uint32_t WHITE = 0, LAST = 1, BLACK = 4294967295u, FREE = 4294967294u;
 
+/* Two of the reasons that Why gives. */
+enum { WHY_FREE = 1, WHY_REACHABLE = 3 };
+
 /* ---- the heap, and a call on it ---- */
 
 enum { MOST = 16384 };
@@ -26,6 +29,7 @@ static uint8_t bytes[MOST];
 enum { ROOM = 7000 };
 static uint32_t out[ROOM];
 static uint8_t image[52 + 37 * MOST];
+static uint32_t path[2 * MOST], queue[MOST], came[MOST];
 #define LENT words, 8 * (size_t)m, colours, m, bytes, m
 
 /* The call's name; the measure's name, NULL where a call only prepares; its units; whether this program counts. */
@@ -378,13 +382,35 @@ static void image_measures(const char *save_name, const char *load_name)
     after(CALL(load, &r, LENT, image, length).refusal);
 }
 
+/* Why of a block, for this reason. */
+static void why(const char *of, uint32_t b, uint32_t reason)
+{
+    struct MACHINE(why_answer) a;
+    measure(of, 0);
+    a = CALL(why, MACHINE_SEEN(r), LENT, path, 2 * (size_t)m, queue, m, came, m, b);
+    after(a.refusal != 0 ? a.refusal : a.reason == reason ? 0 : 99);
+}
+
+/* Why of the last block of a list that has all blocks, each naming the next in word 0. */
+static void why_list(void)
+{
+    all(WHITE);
+    r.root = 2;
+    for (uint32_t b = 2; b <= m; b++)
+        refer(b, 0, b + 1);
+    audit();
+    why("why-list", m + 1, WHY_REACHABLE);
+}
+
 static void linear_measures(void)
 {
+    why_list();
     measure("format", 0);
     after(CALL(format, &r, LENT, m, 1).refusal);
     measure("audit-free", 0);
     audit();
     image_measures("save-free", "load-free");
+    why("why-free", 2, WHY_FREE);
     all(WHITE);
     r.root = 2;
     for (uint32_t i = 0; i < 8 * m; i++)
@@ -392,6 +418,7 @@ static void linear_measures(void)
     measure("audit-8", 0);
     audit();
     image_measures("save-8", "load-8");
+    why("why-8", m + 1, WHY_REACHABLE);
 }
 
 static void calls(uint32_t size)

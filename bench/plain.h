@@ -29,6 +29,10 @@ struct plain_export_answer {
     uint32_t complete, rows, reason, refusal;
 };
 
+struct plain_why_answer {
+    uint32_t refusal, reason, pairs, state;
+};
+
 /* The three lent buffers, each with its length: to be changed, and to be read only. */
 #define PLAIN_LENT                                                                                                             \
     uint32_t *words, size_t words_length, uint32_t *colours, size_t colours_length, uint8_t *bytes, size_t bytes_length
@@ -56,5 +60,7 @@ struct plain_export_answer plain_export_objects(const struct plain_regs *r, PLAI
                                                 uint32_t start, uint32_t fields, uint32_t link);
 struct plain_answer plain_save(const struct plain_regs *r, PLAIN_SEEN, uint8_t *out, size_t out_length);
 struct plain_answer plain_load(struct plain_regs *r, PLAIN_LENT, const uint8_t *image, size_t image_length);
+struct plain_why_answer plain_why(const struct plain_regs *r, PLAIN_SEEN, uint32_t *path, size_t path_length, uint32_t *queue,
+                                  size_t queue_length, uint32_t *came, size_t came_length, uint32_t b);
 
 #endif

@@ -106,6 +106,9 @@ END {
     block_row("Save, eight references in every block", "save-8")
     block_row("Load, a free heap", "load-free")
     block_row("Load, eight references in every block", "load-8")
+    block_row("Why, a free block", "why-free")
+    block_row("Why, the last block of a list", "why-list")
+    block_row("Why, eight references in every block", "why-8")
 
     print "\n### The worst Allocate, U = 10, M = 1,024\n"
     printf "| Instructions | Mean of %s | Largest of %s | The dearest call | Estimate of it, microseconds |\n", shown(calls[key("proved", "long", 1024)]), shown(calls[key("proved", "long", 1024)])

@@ -72,8 +72,8 @@
    written through its pointer.
 
    A call can't test the following, so you have to ensure it: no pointer is null (not even with length 0), each is aligned for
-   its type, the memory behind it is as long as you say, and no two of the record, the three buffers and the buffer of an export or
-   an image overlap. Otherwise the behaviour is undefined.
+   its type, the memory behind it is as long as you say, and no two of the record, the three buffers and the further buffers of a
+   call (those of an export, an image or Why) overlap. Otherwise the behaviour is undefined.
 
 
    THREADS AND SIGNALS
@@ -113,7 +113,7 @@
 
    This header, the way in which C passes arguments and results, and the compilers are not proved. They are tested. tests/c makes
    more than 200,000 calls through this header, also on damaged heaps and with wrong lengths. It compares what they answer with a
-   second model's answers, and the whole heap after 62,000 of them. tests/fuzz compares millions of calls with the same machine in
+   second model's answers, and the whole heap after 71,000 of them. tests/fuzz compares millions of calls with the same machine in
    plain C. */
 #ifndef DERGAMOYNE_H
 #define DERGAMOYNE_H
@@ -122,8 +122,8 @@
 #include <stdint.h>
 
 /* The version: 1,000,000 for each major, 1,000 for each minor, 1 for each patch. */
-#define DERGAMOYNE_VERSION 5000u
-#define DERGAMOYNE_VERSION_TEXT "0.5.0"
+#define DERGAMOYNE_VERSION 6000u
+#define DERGAMOYNE_VERSION_TEXT "0.6.0"
 
 /* Marks a function whose answer must not be ignored: the compiler warns if it is. */
 #ifndef DERGAMOYNE_MUST_USE
@@ -153,6 +153,9 @@ enum {
 /* The length in bytes of the image of a heap of m blocks. */
 #define DERGAMOYNE_IMAGE_BYTES(m) (52 + 37 * (size_t)(m))
 
+/* The numbers of the buffer that Why needs for the path on a heap of m blocks: two for a pair, m pairs. */
+#define DERGAMOYNE_PATH_NUMBERS(m) (2 * (size_t)(m))
+
 /* The index that a refused Look answers: past the end of every word buffer. */
 #define DERGAMOYNE_NO_INDEX 4294967295u
 
@@ -165,7 +168,7 @@ enum dergamoyne_refusal {
                                       the M and U that it is given, every other call those of the record, Load neither. So a
                                       record of zeroes, never formatted, is refused by 1 */
     DERGAMOYNE_REGISTERS = 2,      /* the record is not legal: something else has written to it. Format and Load don't test
-                                      this; Save refuses it by 10 */
+                                      this; Save and Why refuse it by 10 */
     DERGAMOYNE_TOO_MANY_UNITS = 9, /* Work: n is above 65,535 */
     DERGAMOYNE_NO_SUCH_WORD = 3,   /* the block is not 2 to M + 1, or the word is above 7. Allocate and Allocate chain also take
                                       block 0, but only with word 0. Allocate chain: n is not 1 to 256. Of fields: k is above
@@ -177,10 +180,10 @@ enum dergamoyne_refusal {
     DERGAMOYNE_BLOCK_GONE = 5,     /* the block to read or write is free or doomed */
     DERGAMOYNE_TARGET_GONE = 6,    /* the target is free or doomed */
     DERGAMOYNE_NO_FREE_BLOCK = 7,  /* Allocate: no block is free. Allocate chain: fewer than n are */
-    DERGAMOYNE_NOT_WELL_FORMED = 10, /* Save: Audit turns the heap down. Load: the bytes are not the image of a heap that Audit
-                                        accepts, or something comes after it */
+    DERGAMOYNE_NOT_WELL_FORMED = 10, /* Save and Why: Audit turns the heap down. Why tests this before the block. Load: the bytes
+                                        are not the image of a heap that Audit accepts, or something comes after it */
     DERGAMOYNE_OTHER_LENGTH = 13,    /* Save: the output is shorter than the image. Load: the lengths of the buffers aren't
-                                        those of the image's heap */
+                                        those of the image's heap. Why: a buffer is too short */
 
     /* Only dergamoyne_heap.h returns these. The library itself never answers them. */
     DERGAMOYNE_NO_MEMORY = 100,      /* there is no memory for the heap */
@@ -247,6 +250,41 @@ struct dergamoyne_export_answer {
     uint32_t complete, rows, reason, refusal;
 };
 
+/* WHY A BLOCK IS STILL HERE. Why answers with one of these reasons:
+
+       FREE        The block is not in use, so it takes no memory from you. There is nothing to do.
+       DOOMED      Nothing leads to it from the root, and the sweep is about to free it. It is free by the end of this cycle:
+                   go on, or call Work.
+       REACHABLE   References lead to it from the root, so it stays. The path shows one way. Put the null reference, or another
+                   block, into one of the words on it, preferably the one that you forgot, and ask again: there may be another path.
+       KEPT        Nothing leads to it from the root any more, but the collector has not found that out. It is freed by the end of
+                   the next cycle that begins, unless until then a store or a root change names a block that nothing leads to.
+                   If that takes too long, call Work. The state says how far the running cycle is with it: grey and black blocks
+                   outlast this cycle; a live white one is not met yet, or the sweep has passed it already.
+
+   The path is a row of pairs, each a block and one of its words. The first block is the root. Each word is a reference to the block
+   of the next pair, the last one to the block that you asked for. The root itself has no pairs. No path has fewer pairs; of several
+   equally short ones it is the one whose first word is the smallest, or if that is the same the second, and so on. To print it:
+
+       for (uint32_t i = 0; i < a.pairs; i++)
+           printf("block %u, word %u ->\n", path[2 * i], path[2 * i + 1]);
+       printf("block %u\n", b);
+
+   Inside an object, word 7 leads to its next block. So a pair with word 7 goes on in the same object, and a pair with another word
+   w is field 7i + w, if its block is the object's block i, counted from 0. */
+enum dergamoyne_why_reason {
+    DERGAMOYNE_WHY_FREE = 1,      /* not allocated */
+    DERGAMOYNE_WHY_DOOMED = 2,    /* out of reach, and the sweep is about to free it */
+    DERGAMOYNE_WHY_REACHABLE = 3, /* the root, or references lead to it from the root; with a path */
+    DERGAMOYNE_WHY_KEPT = 4       /* out of reach, but not doomed; with its state */
+};
+
+/* What Why answers: a refusal or 0; the reason, 0 on a refusal; with DERGAMOYNE_WHY_REACHABLE the number of pairs, else 0; and with
+   DERGAMOYNE_WHY_KEPT the block's state as State tells it (live white, grey or black), else 0. */
+struct dergamoyne_why_answer {
+    uint32_t refusal, reason, pairs, state;
+};
+
 /* These don't compile if the compiler lays the structs out differently from this version of the library. They can't detect a
    library of another version; dergamoyne_record_size() does that. */
 typedef char dergamoyne_regs_is_36_bytes[sizeof(struct dergamoyne_regs) == 36 ? 1 : -1];
@@ -254,6 +292,7 @@ typedef char dergamoyne_answer_is_12_bytes[sizeof(struct dergamoyne_answer) == 1
 typedef char dergamoyne_read_answer_is_16_bytes[sizeof(struct dergamoyne_read_answer) == 16 ? 1 : -1];
 typedef char dergamoyne_look_answer_is_8_bytes[sizeof(struct dergamoyne_look_answer) == 8 ? 1 : -1];
 typedef char dergamoyne_export_answer_is_16_bytes[sizeof(struct dergamoyne_export_answer) == 16 ? 1 : -1];
+typedef char dergamoyne_why_answer_is_16_bytes[sizeof(struct dergamoyne_why_answer) == 16 ? 1 : -1];
 typedef char dergamoyne_length_is_8_bytes[sizeof(size_t) == 8 ? 1 : -1];
 
 /* The version of the library, to be compared with DERGAMOYNE_VERSION. */
@@ -415,6 +454,17 @@ DERGAMOYNE_MUST_USE struct dergamoyne_answer dergamoyne_save(
 DERGAMOYNE_MUST_USE struct dergamoyne_answer dergamoyne_load(
     struct dergamoyne_regs *regs, uint32_t *words, size_t words_length, uint32_t *colours, size_t colours_length,
     uint8_t *bytes, size_t bytes_length, const uint8_t *image, size_t image_length);
+
+/* Why: why the block b is still here, with the path that leads to it if it can be reached (see enum dergamoyne_why_reason). The path
+   is written to path, two numbers a pair. It needs DERGAMOYNE_PATH_NUMBERS(M) numbers, which is 2M, and the two buffers in which
+   Why works need M each; all three may be longer. What they contain before does not matter. Afterwards path holds the pairs and
+   then zeroes to its end, and queue and came hold zeroes. The heap and the record stay as they are. The cost grows with M and with
+   the number of references. Refusals: 1; 10 for a heap that Audit turns down, illegal registers too; 3 for the block; 13 if one of
+   the three buffers is too short. A refusal writes nothing. */
+DERGAMOYNE_MUST_USE struct dergamoyne_why_answer dergamoyne_why(
+    struct dergamoyne_regs regs, const uint32_t *words, size_t words_length, const uint32_t *colours,
+    size_t colours_length, const uint8_t *bytes, size_t bytes_length, uint32_t *path, size_t path_length,
+    uint32_t *queue, size_t queue_length, uint32_t *came, size_t came_length, uint32_t b);
 
 #ifdef __cplusplus
 }

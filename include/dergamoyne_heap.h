@@ -12,8 +12,8 @@
        dergamoyne_heap_close(&heap);
 
    dergamoyne.h explains the terms (block, word, reference, root, unit), what is promised, and what you have to ensure.
-   examples/c/list.c is a program that uses most of this, examples/c/objects.c one with objects longer than a block, and
-   examples/c/spare.c one that goes on in another process.
+   examples/c/list.c is a program that uses most of this, examples/c/objects.c one with objects longer than a block,
+   examples/c/spare.c one that goes on in another process, and examples/c/why.c one that asks why blocks are still here.
 
    HOW IT GUARDS AGAINST MISTAKES
 
@@ -23,6 +23,7 @@
      clearing it each have their own function. A holder 0 is refused by 3, a target 0 by 4.
    - An object is held by a field of another, so its holder's links stay as they are.
    - An export that is not complete gives no number of rows.
+   - Why has one buffer for the path and for its work, and where there is no path the number of pairs is 0.
    - Opening a heap tests that this header and the library have the same version. */
 #ifndef DERGAMOYNE_HEAP_H
 #define DERGAMOYNE_HEAP_H
@@ -48,7 +49,7 @@ enum dergamoyne_phase { DERGAMOYNE_IDLE = 0, DERGAMOYNE_MARKING = 1, DERGAMOYNE_
 #define DERGAMOYNE_LENT h->words, h->words_length, h->colours, h->colours_length, h->bytes, h->bytes_length
 
 
-/* IN WORDS: what a refusal means, an export's reason, and the state of a block. */
+/* IN WORDS: what a refusal means, an export's reason, the state of a block, and why a block is still here. */
 
 static inline const char *dergamoyne_refusal_text(uint32_t refusal)
 {
@@ -76,7 +77,7 @@ static inline const char *dergamoyne_refusal_text(uint32_t refusal)
     case DERGAMOYNE_NOT_WELL_FORMED:
         return "the heap is not well-formed, or the bytes are not the image of a heap that is";
     case DERGAMOYNE_OTHER_LENGTH:
-        return "the output is too short for the image, or the buffers are not of its lengths";
+        return "a buffer is too short, or the buffers are not of the image's lengths";
     case DERGAMOYNE_NOT_A_NUMBER:
         return "the word holds a reference";
     case DERGAMOYNE_NOT_A_REFERENCE:
@@ -125,6 +126,22 @@ static inline const char *dergamoyne_state_text(uint32_t state)
         return "outside the layout";
     default:
         return "a state that this version does not know";
+    }
+}
+
+static inline const char *dergamoyne_why_text(uint32_t reason)
+{
+    switch (reason) {
+    case DERGAMOYNE_WHY_FREE:
+        return "it is not in use";
+    case DERGAMOYNE_WHY_DOOMED:
+        return "nothing leads to it, and the sweep is about to free it";
+    case DERGAMOYNE_WHY_REACHABLE:
+        return "references lead to it from the root";
+    case DERGAMOYNE_WHY_KEPT:
+        return "nothing leads to it, but the collector has not found that out yet";
+    default:
+        return "a reason that this version does not know";
     }
 }
 
@@ -596,6 +613,39 @@ DERGAMOYNE_REFUSABLE dergamoyne_heap_state(const struct dergamoyne_heap *h, uint
     struct dergamoyne_answer a = dergamoyne_state(h->regs, DERGAMOYNE_LENT, block);
     if (a.refusal == DERGAMOYNE_DONE)
         *state = (enum dergamoyne_block_state)a.value;
+    return (enum dergamoyne_refusal)a.refusal;
+}
+
+/* Why a block is still here: the reason; how many pairs the path has, 0 where there is none; and the state of the block, whatever
+   the reason is. */
+struct dergamoyne_why {
+    enum dergamoyne_why_reason reason;
+    uint32_t pairs;
+    enum dergamoyne_block_state state;
+};
+
+/* The rows that dergamoyne_heap_why needs on a heap of m blocks: m for the path, and as many to work in. */
+#define DERGAMOYNE_WHY_ROWS(m) (2 * (size_t)(m))
+
+/* Tells why a block is still here; dergamoyne.h says what each reason means and what to do. `path` has `rows` rows,
+   DERGAMOYNE_WHY_ROWS(blocks) at least, and whatever they contain is gone. Afterwards path[0] to path[why->pairs - 1] are the path
+   from the root to the block, path[i][0] a block and path[i][1] the word in it that names the next; all other rows are 0. The cost
+   grows with the number of blocks. It is for finding out why memory doesn't shrink, not for every call. Refusals: 1; 10 for a heap
+   that dergamoyne_heap_check turns down; 3 for the block; 13 for too few rows. A refusal writes nothing, and leaves *why alone. */
+DERGAMOYNE_REFUSABLE dergamoyne_heap_why(const struct dergamoyne_heap *h, uint32_t block, uint32_t (*path)[2], size_t rows,
+                                         struct dergamoyne_why *why)
+{
+    uint32_t none = 0;
+    uint32_t *numbers = rows == 0 ? &none : &path[0][0];
+    size_t pairs = rows < h->regs.blocks ? rows : h->regs.blocks, rest = rows - pairs;
+    uint32_t *queue = numbers + 2 * pairs;
+    struct dergamoyne_why_answer a =
+        dergamoyne_why(h->regs, DERGAMOYNE_LENT, numbers, 2 * pairs, queue, rest, queue + rest, rest, block);
+    if (a.refusal == DERGAMOYNE_DONE) {
+        why->reason = (enum dergamoyne_why_reason)a.reason;
+        why->pairs = a.pairs;
+        why->state = (enum dergamoyne_block_state)dergamoyne_state(h->regs, DERGAMOYNE_LENT, block).value;
+    }
     return (enum dergamoyne_refusal)a.refusal;
 }
 

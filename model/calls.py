@@ -1,7 +1,7 @@
 """Cases of the exported calls with what comes of them, for tests/c/cases.c.
 
 python3 model/calls.py prints those stored in tests/c/cases.txt;
-python3 model/calls.py SEED COUNT prints COUNT * 70 drawn from SEED.
+python3 model/calls.py SEED COUNT prints COUNT * 80 drawn from SEED.
 
 A case is two lines, before the call and after it:
 
@@ -11,7 +11,8 @@ A case is two lines, before the call and after it:
 Each <list> is its length and then its numbers. The answer has its numbers in
 the order of its struct in include/dergamoyne.h. `out` is the further buffer of
 a call that takes one, else of length 0: words of an export, bytes of an image,
-which Save writes and Load reads. A new call is a line of CALLS.
+which Save writes and Load reads. Why has its three in that place: <path>, <queue>
+and <came>. A new call is a line of CALLS.
 """
 
 import itertools
@@ -24,12 +25,15 @@ import damage
 import draw
 import draw_chains
 import draw_images
+import draw_whys
 import export_cases
 import exports
 import images
 import machine
 import probe
 import states
+import why_cases
+import whys
 
 TOP = 4294967295
 
@@ -66,6 +70,7 @@ CALLS = {
     "state": plain(states.state),
     "save": images.save,
     "load": images.load,
+    "why": whys.why,
 }
 
 # The letters by which heapprobe's cases name the calls of document 01.
@@ -77,16 +82,16 @@ def listed(*lists):
     return " ".join(" ".join(map(str, [len(numbers), *numbers])) for numbers in lists)
 
 
-def everything(h, out):
-    return machine.registers(h), h.words, h.colours, h.bytes, out
+def everything(h, further):
+    return machine.registers(h), h.words, h.colours, h.bytes, *further
 
 
-def case(name, numbers, h, out=()):
+def case(name, numbers, h, *further):
     """The two lines of a case. The heap is left as it was."""
-    h, out = machine.copy(h), list(out)
-    before = f"{name} {listed(numbers, *everything(h, out))}"
-    answer = CALLS[name](h, out, *numbers)
-    return f"{before}\n{listed(answer, *everything(h, out))}\n"
+    h, further = machine.copy(h), [list(buffer) for buffer in further or ([],)]
+    before = f"{name} {listed(numbers, *everything(h, further))}"
+    answer = CALLS[name](h, *further, *numbers)
+    return f"{before}\n{listed(answer, *everything(h, further))}\n"
 
 
 # -------------------------------------------------------------------- exports
@@ -186,6 +191,13 @@ def drawn_images(rng, count):
         yield case(name, [], h, further)
 
 
+def drawn_whys(rng, count):
+    """Ten of Why, so many times."""
+    for _ in range(10 * count):
+        h, *lent, block = draw_whys.case(rng)
+        yield case("why", [block], h, *lent)
+
+
 def images_gone_over():
     """The images worked out by hand: saved and loaded; cut at every length; with
     every byte changed."""
@@ -219,6 +231,9 @@ def stored():
     yield from drawn_states(random.Random(106), 16)
     yield from images_gone_over()
     yield from drawn_images(random.Random(108), 30)
+    for _, h, lengths, block, _, _ in why_cases.cases():
+        yield case("why", [block], h, *([7777] * length for length in lengths))
+    yield from drawn_whys(random.Random(109), 30)
 
 
 def main(arguments):
@@ -228,7 +243,8 @@ def main(arguments):
                                 drawn_chains(random.Random(f"chains {seed}"), int(count)),
                                 drawn_exports(random.Random(f"exports {seed}"), int(count)),
                                 drawn_states(random.Random(f"states {seed}"), int(count)),
-                                drawn_images(random.Random(f"images {seed}"), int(count)))
+                                drawn_images(random.Random(f"images {seed}"), int(count)),
+                                drawn_whys(random.Random(f"whys {seed}"), int(count)))
     else:
         found = stored()
     sys.stdout.writelines(found)

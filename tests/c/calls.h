@@ -5,6 +5,7 @@
        WRITES    it looks, and writes words to a further buffer
        SAVES     it looks, and writes an image to a further buffer of bytes
        LOADS     it changes, and reads an image
+       SEARCHES  it looks, writes words to a further buffer, and works in two more
 
    Then the call's name, its answer's struct, how many numbers it takes, and what each of them is (see heap.h). The file has no
    guard: it is included wherever a list of the calls is wanted, with the words above defined for it. */
@@ -26,3 +27,4 @@ WRITES(export_objects, export_answer, 3, START, FIELDS, FIELD)
 LOOKS(state, answer, 1, BLOCK)
 SAVES(save, answer, 0, NONE)
 LOADS(load, answer, 0, SAVED)
+SEARCHES(why, why_answer, 1, BLOCK)

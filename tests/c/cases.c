@@ -8,6 +8,7 @@
        NAME <numbers> <registers> <words> <colours> <bytes> <out>
        <answer> <registers> <words> <colours> <bytes> <out>
    Each <list> is its length and then its numbers; model/calls.py writes them. <out> has words of an export, or bytes of an image.
+   Why has three lists in its place: the path, and the two buffers it works in.
    The last line printed tells how many there were. Where something differs, or a call has no case, it says what and exits with
    1. */
 #include "machine.h"
@@ -15,7 +16,7 @@
 #include <stdio.h>
 #include <stdlib.h>
 
-enum { EDGE = 64, FILLED = 0xA5, PARTS = 5, LONGEST_NAME = 40 };
+enum { EDGE = 64, FILLED = 0xA5, PARTS = 7, OUT = 4, LONGEST_NAME = 40 };
 
 /* A buffer that is lent, with an edge before it and one right behind it. The width is that of an element, in bytes. */
 struct part {
@@ -25,7 +26,8 @@ struct part {
 };
 
 static struct part parts[PARTS] = {
-    {"register", 4, 0, NULL}, {"words", 4, 0, NULL}, {"colours", 4, 0, NULL}, {"bytes", 1, 0, NULL}, {"out", 4, 0, NULL}};
+    {"register", 4, 0, NULL}, {"words", 4, 0, NULL}, {"colours", 4, 0, NULL}, {"bytes", 1, 0, NULL}, {"out", 4, 0, NULL},
+    {"queue", 4, 0, NULL},    {"came", 4, 0, NULL}};
 
 /* The case at hand: its number, its call and the call's numbers. */
 static unsigned long number;
@@ -158,8 +160,10 @@ static size_t perform(uint32_t *answer)
     h.words = (uint32_t *)(void *)lent(&parts[1]), h.words_length = parts[1].length;
     h.colours = (uint32_t *)(void *)lent(&parts[2]), h.colours_length = parts[2].length;
     h.bytes = lent(&parts[3]), h.bytes_length = parts[3].length;
-    h.out = (uint32_t *)(void *)lent(&parts[4]), h.out_length = parts[4].length;
-    h.image = lent(&parts[4]), h.image_length = parts[4].length;
+    h.out = (uint32_t *)(void *)lent(&parts[OUT]), h.out_length = parts[OUT].length;
+    h.image = lent(&parts[OUT]), h.image_length = parts[OUT].length;
+    h.queue = (uint32_t *)(void *)lent(&parts[5]), h.queue_length = parts[5].length;
+    h.came = (uint32_t *)(void *)lent(&parts[6]), h.came_length = parts[6].length;
     return call->perform(&h, numbers, answer);
 }
 
@@ -175,18 +179,18 @@ static void compare_answer(const uint32_t *answer, size_t length)
 static void do_case(void)
 {
     uint32_t answer[MOST_ANSWER];
-    size_t length;
+    size_t length, lists = OUT + call->further;
     read_list(numbers, call->count);
-    parts[4].width = call->width;
-    for (size_t i = 0; i < PARTS; i++)
+    parts[OUT].width = call->width;
+    for (size_t i = 0; i < lists; i++)
         lend(&parts[i]);
     if (parts[0].length != REGISTERS)
         fail("a record has another number of registers");
     length = perform(answer);
-    for (size_t i = 0; i < PARTS; i++)
+    for (size_t i = 0; i < lists; i++)
         test_edges(&parts[i]);
     compare_answer(answer, length);
-    for (size_t i = 0; i < PARTS; i++)
+    for (size_t i = 0; i < lists; i++)
         compare(&parts[i]);
 }
 

@@ -4,7 +4,8 @@
        fuzz [--spoil] [--counts] SEED SECONDS
 
    A round has a heap of its own: fresh, running, or with damage done to both sides alike, sometimes of lengths that don't fit.
-   Now and then it is saved, a byte of its image is changed on both sides, and that is loaded.
+   Now and then it is saved, a byte of its image is changed on both sides, and that is loaded; and Why is asked with something left
+   behind in its buffers.
    Each buffer stands between two pages that can't be touched, by turns against the one behind it and against the one before
    it. The same seed gives the same calls. It prints how many calls it made, and `no difference`; or the seed, the call and what
    differs, and exits with 1. With --spoil the plain side makes a mistake of document 01's list, a new block white while
@@ -34,11 +35,12 @@
 #define PERFORMED written
 #include "perform.h"
 
-enum { CALLS = sizeof proved / sizeof *proved, PARTS = 6, MOST = 16384, REGISTERS = sizeof(struct dergamoyne_regs) / 4 };
-enum { RECORD, WORDS, COLOURS, BYTES, OUT, IMAGE };
-static const char *const part_names[PARTS] = {"register", "words", "colours", "bytes", "out", "image"};
-static const size_t widths[PARTS] = {4, 4, 4, 1, 4, 1};
-static const size_t most[PARTS] = {4 * REGISTERS, 32 * (MOST + 2), 4 * (MOST + 2), MOST + 2, 32 * (MOST + 2), 52 + 37 * (MOST + 2)};
+enum { CALLS = sizeof proved / sizeof *proved, PARTS = 8, MOST = 16384, REGISTERS = sizeof(struct dergamoyne_regs) / 4 };
+enum { RECORD, WORDS, COLOURS, BYTES, OUT, IMAGE, QUEUE, CAME };
+static const char *const part_names[PARTS] = {"register", "words", "colours", "bytes", "out", "image", "queue", "came"};
+static const size_t widths[PARTS] = {4, 4, 4, 1, 4, 1, 4, 4};
+static const size_t most[PARTS] = {4 * REGISTERS, 32 * (MOST + 2), 4 * (MOST + 2), MOST + 2, 32 * (MOST + 2), 52 + 37 * (MOST + 2),
+                                   4 * (MOST + 8), 4 * (MOST + 8)};
 typedef char records_are_alike[sizeof(struct dergamoyne_regs) == sizeof(struct plain_regs) ? 1 : -1];
 
 /* One of the two: its calls, its memory between guard pages, and the heap that stands in it. */
@@ -64,8 +66,10 @@ static void say_call(void)
     printf("fuzz: seed %llu, call %llu: %s", seed, made, proved[call].name);
     for (unsigned i = 0; i < proved[call].count; i++)
         printf(" %lu", (unsigned long)numbers[i]);
-    printf(" on %lu words, %lu colours, %lu bytes, out of %lu, image of %lu\n", (unsigned long)lengths[WORDS],
-           (unsigned long)lengths[COLOURS], (unsigned long)lengths[BYTES], (unsigned long)lengths[OUT], (unsigned long)lengths[IMAGE]);
+    printf(" on");
+    for (size_t i = WORDS; i < PARTS; i++)
+        printf(" %lu %s", (unsigned long)lengths[i], part_names[i]);
+    printf("\n");
 }
 
 static void differ(const char *what, size_t at, uint32_t is, uint32_t other)
@@ -150,6 +154,8 @@ static void place(struct side *s, int at_end)
     s->heap.bytes = s->lent[BYTES], s->heap.bytes_length = lengths[BYTES];
     s->heap.out = (uint32_t *)(void *)s->lent[OUT], s->heap.out_length = lengths[OUT];
     s->heap.image = s->lent[IMAGE], s->heap.image_length = lengths[IMAGE];
+    s->heap.queue = (uint32_t *)(void *)s->lent[QUEUE], s->heap.queue_length = lengths[QUEUE];
+    s->heap.came = (uint32_t *)(void *)s->lent[CAME], s->heap.came_length = lengths[CAME];
 }
 
 static uint32_t get(const struct side *s, size_t part, size_t i)
@@ -417,7 +423,7 @@ static void load_bent(void)
     do_call();
 }
 
-/* The same with a buffer that is lent one element short. */
+/* Load of what was saved, with a buffer that is lent one element short. */
 static void load_short(void)
 {
     size_t part = 1 + below(3);
@@ -429,6 +435,18 @@ static void load_short(void)
     do_call();
     for (size_t s = 0; s < 2; s++)
         place(&sides[s], sides[s].lent[RECORD] != sides[s].start[RECORD]);
+}
+
+/* Why of a block, with something left behind in the buffers that are lent for the path and for working. */
+static void ask_littered(void)
+{
+    static const size_t littered[] = {OUT, QUEUE, CAME};
+    for (size_t p = 0; p < 3; p++)
+        for (size_t i = 0, length = lengths[littered[p]]; i < 4 && length != 0; i++)
+            put(littered[p], below((uint32_t)length), any());
+    call = call_named("why");
+    numbers[0] = block();
+    do_call();
 }
 
 /* A fresh heap; with a number that doesn't fit it stays a record of zeroes. */
@@ -456,7 +474,11 @@ static void lay_out(uint32_t m)
     lengths[RECORD] = REGISTERS;
     lengths[WORDS] = 8 * (size_t)m;
     lengths[COLOURS] = lengths[BYTES] = m;
-    lengths[OUT] = one_in(2) ? 8 * (size_t)m : below(8 * m + 9);
+    lengths[OUT] = one_in(2) ? 8 * (size_t)m : one_in(4) ? 2 * (size_t)m : below(8 * m + 9);
+    lengths[QUEUE] = m + (one_in(4) ? below(8) : 0);
+    lengths[CAME] = m + (one_in(4) ? below(8) : 0);
+    if (one_in(16))
+        lengths[one_in(2) ? QUEUE : CAME] = one_in(2) ? m - 1 : below(m);
     lengths[IMAGE] = 52 + 37 * (size_t)m;
     if (one_in(8))
         lengths[IMAGE] = one_in(2) ? below(52 + 37 * m) : lengths[IMAGE] + 1 - 2 * below(2);
@@ -486,6 +508,8 @@ static void play(void)
             load_bent();
         if (!damaged && one_in(64) && blocks() != 0)
             load_short();
+        if (!damaged && one_in(8))
+            ask_littered();
         draw_call();
         do_call();
     }

@@ -23,6 +23,10 @@ int main(void)
     dergamoyne_heap_save(&h, h.bytes, 0);
 #elif IGNORED == 9
     dergamoyne_load(&h.regs, h.words, 0, h.colours, 0, h.bytes, 0, h.bytes, 0);
+#elif IGNORED == 10
+    dergamoyne_heap_why(&h, 2, 0, 0, 0);
+#elif IGNORED == 11
+    dergamoyne_why(h.regs, h.words, 0, h.colours, 0, h.bytes, 0, h.words, 0, h.words, 0, h.words, 0, 2);
 #endif
     return 0;
 }

@@ -378,6 +378,106 @@ static void states(void)
     expect(dergamoyne_heap_state(&h, 2, &state) == DERGAMOYNE_DOES_NOT_FIT && state == DERGAMOYNE_STATE_GREY, "a refused state");
 }
 
+/* ---- why a block is here ---- */
+
+enum { WHY_BLOCKS = 4, WHY_ROWS = DERGAMOYNE_WHY_ROWS(WHY_BLOCKS) };
+
+/* All rows from `first` on are those that nothing wrote to, or zeroes. */
+static int rows_are(uint32_t (*path)[2], size_t first, size_t rows, uint32_t value)
+{
+    for (size_t i = first; i < rows; i++)
+        if (path[i][0] != value || path[i][1] != value)
+            return 0;
+    return 1;
+}
+
+static void fill_rows(uint32_t (*path)[2], size_t rows)
+{
+    for (size_t i = 0; i < rows; i++)
+        path[i][0] = path[i][1] = UNTOUCHED;
+}
+
+/* The reason, the pairs and the state are these, and all rows past the path are 0: with as many rows as are needed, and with more. */
+static void told(const struct dergamoyne_heap *h, uint32_t block, enum dergamoyne_why_reason reason, uint32_t pairs,
+                 enum dergamoyne_block_state state, uint32_t (*path)[2], const char *what)
+{
+    for (size_t rows = WHY_ROWS + 3; rows >= WHY_ROWS; rows--) {
+        struct dergamoyne_why why;
+        fill_rows(path, WHY_ROWS + 3);
+        expect(dergamoyne_heap_why(h, block, path, rows, &why) == DERGAMOYNE_DONE && why.reason == reason && why.pairs == pairs &&
+                   why.state == state,
+               what);
+        expect(rows_are(path, pairs, rows, 0) && rows_are(path, rows, WHY_ROWS + 3, UNTOUCHED), "what it leaves behind the path");
+    }
+}
+
+/* It is refused, and writes nothing. */
+static void not_told(const struct dergamoyne_heap *h, uint32_t block, size_t rows, enum dergamoyne_refusal refusal, const char *what)
+{
+    uint32_t path[WHY_ROWS][2];
+    struct dergamoyne_why why;
+    fill_rows(path, WHY_ROWS);
+    why.reason = DERGAMOYNE_WHY_KEPT, why.pairs = UNTOUCHED, why.state = DERGAMOYNE_STATE_GREY;
+    expect(dergamoyne_heap_why(h, block, path, rows, &why) == refusal, what);
+    expect(why.reason == DERGAMOYNE_WHY_KEPT && why.pairs == UNTOUCHED && why.state == DERGAMOYNE_STATE_GREY, "a refusal tells nothing");
+    expect(rows_are(path, 0, WHY_ROWS, UNTOUCHED), "a refusal writes nothing");
+}
+
+/* The root 2 names 3 by word 3 and by word 5, and 3 names 4 by word 0; 5 is free. The three units begin a cycle, turn to the sweep
+   and whiten the root. Then 3 is let go, and a whole cycle more is done but for its sweep. */
+static void whys(void)
+{
+    struct dergamoyne_heap h;
+    struct dergamoyne_why why;
+    uint32_t path[WHY_ROWS + 3][2], root = 0, second = 0, third = 0;
+    expect(dergamoyne_heap_open(&h, WHY_BLOCKS, 1) == DERGAMOYNE_DONE && dergamoyne_heap_new_root(&h, &root) == DERGAMOYNE_DONE &&
+               dergamoyne_heap_new_block(&h, root, 5, &second) == DERGAMOYNE_DONE &&
+               dergamoyne_heap_new_block(&h, second, 0, &third) == DERGAMOYNE_DONE &&
+               dergamoyne_heap_store_reference(&h, root, 3, second) == DERGAMOYNE_DONE,
+           "three blocks");
+    told(&h, root, DERGAMOYNE_WHY_REACHABLE, 0, DERGAMOYNE_STATE_LIVE_WHITE, path, "why the root is here");
+    told(&h, third, DERGAMOYNE_WHY_REACHABLE, 2, DERGAMOYNE_STATE_BLACK, path, "why the third block is here");
+    expect(path[0][0] == root && path[0][1] == 3 && path[1][0] == second && path[1][1] == 0, "its path");
+    told(&h, 5, DERGAMOYNE_WHY_FREE, 0, DERGAMOYNE_STATE_FREE, path, "why a free block is here");
+    not_told(&h, third, WHY_ROWS - 1, DERGAMOYNE_OTHER_LENGTH, "a row too few");
+    not_told(&h, third, WHY_BLOCKS, DERGAMOYNE_OTHER_LENGTH, "no rows to work in");
+    not_told(&h, 0, WHY_ROWS, DERGAMOYNE_NO_SUCH_WORD, "why of block 0");
+    not_told(&h, 6, 0, DERGAMOYNE_NO_SUCH_WORD, "no block before too few rows");
+    expect(dergamoyne_heap_why(&h, third, NULL, 0, &why) == DERGAMOYNE_OTHER_LENGTH, "no rows at all");
+    expect(dergamoyne_heap_store_null(&h, root, 3) == DERGAMOYNE_DONE && dergamoyne_heap_store_null(&h, root, 5) == DERGAMOYNE_DONE,
+           "let go");
+    told(&h, third, DERGAMOYNE_WHY_KEPT, 0, DERGAMOYNE_STATE_BLACK, path, "why it is kept");
+    expect(dergamoyne_heap_work(&h, 3 + 3) == DERGAMOYNE_DONE, "the next cycle, up to its sweep");
+    told(&h, third, DERGAMOYNE_WHY_DOOMED, 0, DERGAMOYNE_STATE_DOOMED, path, "why it is doomed");
+    h.regs.phase = 3;
+    not_told(&h, 0, 0, DERGAMOYNE_NOT_WELL_FORMED, "why on a record that is not legal");
+    h.regs.phase = 2;
+    h.bytes[3] = 1;
+    not_told(&h, 2, WHY_ROWS, DERGAMOYNE_NOT_WELL_FORMED, "why on a damaged heap");
+    dergamoyne_heap_close(&h);
+    not_told(&h, 2, WHY_ROWS, DERGAMOYNE_DOES_NOT_FIT, "why on a heap that was closed");
+}
+
+/* The longest path there can be: a list of all blocks of the largest heap. */
+static void longest_path(void)
+{
+    enum { ALL = DERGAMOYNE_MOST_BLOCKS };
+    static uint32_t path[DERGAMOYNE_WHY_ROWS(ALL)][2];
+    struct dergamoyne_heap h;
+    struct dergamoyne_why why;
+    uint32_t last = 0, i = 1;
+    expect(dergamoyne_heap_open(&h, ALL, 1) == DERGAMOYNE_DONE && dergamoyne_heap_first_row(&h, LINK, &last) == DERGAMOYNE_DONE, "a row");
+    while (i < ALL && dergamoyne_heap_new_row(&h, last, LINK, LINK, &last) == DERGAMOYNE_DONE)
+        i++;
+    expect(dergamoyne_heap_why(&h, last, path, DERGAMOYNE_WHY_ROWS(ALL), &why) == DERGAMOYNE_DONE &&
+               why.reason == DERGAMOYNE_WHY_REACHABLE && why.pairs == ALL - 1,
+           "why the last of all blocks is here");
+    for (i = 0; i < ALL - 1; i++)
+        expect(path[i][0] == i + 2 && path[i][1] == LINK, "the path to it");
+    expect(rows_are(path, ALL - 1, DERGAMOYNE_WHY_ROWS(ALL), 0), "what is behind that path");
+    dergamoyne_heap_close(&h);
+}
+
 /* ---- images ---- */
 
 /* A heap of three blocks while marking: the root 2 is black and names 3, which is grey. */
@@ -484,7 +584,10 @@ static void texts(void)
     for (uint32_t n = 1; n < 7; n++)
         expect(strcmp(dergamoyne_state_text(n), dergamoyne_state_text(n - 1)) != 0, "a state has a text of its own");
     expect(strcmp(dergamoyne_refusal_text(98), dergamoyne_refusal_text(99)) == 0, "an unknown refusal");
+    for (uint32_t n = 1; n < 5; n++)
+        expect(strcmp(dergamoyne_why_text(n), dergamoyne_why_text(n - 1)) != 0, "a reason why has a text of its own");
     expect(strcmp(dergamoyne_state_text(0), dergamoyne_state_text(7)) == 0, "an unknown state");
+    expect(strcmp(dergamoyne_why_text(0), dergamoyne_why_text(5)) == 0, "an unknown reason why");
 }
 
 static void versions(void)
@@ -509,6 +612,8 @@ int main(void)
     enough();
     object_rows();
     states();
+    whys();
+    longest_path();
     images();
     largest_images();
     texts();

@@ -28,18 +28,23 @@
 #define WRITES(name, result, count, ...) PERFORM_BY(name, result, PERFORM_SEEN, PERFORM_LENT, h->out, h->out_length PERFORM_##count)
 #define SAVES(name, result, count, ...) PERFORM_BY(name, result, PERFORM_SEEN, PERFORM_LENT, h->image, h->image_length PERFORM_##count)
 #define LOADS(name, result, count, ...) PERFORM_BY(name, result, PERFORM_RECORD, PERFORM_LENT, h->image, h->image_length PERFORM_##count)
+#define SEARCHES(name, result, count, ...)                                                                                     \
+    PERFORM_BY(name, result, PERFORM_SEEN, PERFORM_LENT, h->out, h->out_length, h->queue, h->queue_length, h->came,            \
+               h->came_length PERFORM_##count)
 #include "calls.h"
 #undef CHANGES
 #undef LOOKS
 #undef WRITES
 #undef SAVES
 #undef LOADS
+#undef SEARCHES
 
-#define CHANGES(name, result, count, ...) {#name, count, 4, PERFORM(name), {__VA_ARGS__}},
+#define CHANGES(name, result, count, ...) {#name, count, 1, 4, PERFORM(name), {__VA_ARGS__}},
 #define LOOKS CHANGES
 #define WRITES CHANGES
-#define SAVES(name, result, count, ...) {#name, count, 1, PERFORM(name), {__VA_ARGS__}},
+#define SAVES(name, result, count, ...) {#name, count, 1, 1, PERFORM(name), {__VA_ARGS__}},
 #define LOADS SAVES
+#define SEARCHES(name, result, count, ...) {#name, count, 3, 4, PERFORM(name), {__VA_ARGS__}},
 static const struct call PERFORMED[] = {
 #include "calls.h"
 };
@@ -48,6 +53,7 @@ static const struct call PERFORMED[] = {
 #undef WRITES
 #undef SAVES
 #undef LOADS
+#undef SEARCHES
 #undef PERFORM_BY
 #undef PERFORM_LENT
 #undef PERFORM_RECORD

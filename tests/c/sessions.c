@@ -23,7 +23,8 @@ static uint8_t bytes[MOST];
 static struct heap lent(uint32_t m)
 {
     size_t n = m < MOST ? m : MOST;
-    struct heap h = {&regs, words, colours, NULL, bytes, NULL, 8 * n, n, n, 0, 0};
+    struct heap h = {.regs = &regs, .words = words, .colours = colours, .bytes = bytes,
+                     .words_length = 8 * n, .colours_length = n, .bytes_length = n};
     return h;
 }
 

@@ -40,7 +40,7 @@ pub fn load(
             read(words, colours, bytes, image, s.blocks);
             return part_checks::done(s, 0);
         }
-        return part_checks::refused(r, part_image::BAD_LENGTH);
+        return part_checks::refused(r, machine::BAD_LENGTH);
     }
-    part_checks::refused(r, part_image::BAD_HEAP)
+    part_checks::refused(r, machine::BAD_HEAP)
 }

@@ -71,12 +71,12 @@ pub fn save(r: Regs, words: &[u32], colours: &[u32], bytes: &[u8], out: &mut [u8
     if part_checks::fits(r.blocks, r.pace, words.len(), colours.len(), bytes.len()) {
         if call_audit::passes(r, words, colours, bytes) {
             if out.len() < part_image::image_length(r.blocks as usize) {
-                return answer(part_image::BAD_LENGTH);
+                return answer(machine::BAD_LENGTH);
             }
             write(r, words, colours, bytes, out);
             return answer(0);
         }
-        return answer(part_image::BAD_HEAP);
+        return answer(machine::BAD_HEAP);
     }
     answer(machine::UNFIT)
 }

@@ -1,8 +1,9 @@
 // The outer calls, for a host in C. Ten write to the heap: the host lends its one register record, and the call changes it in
-// place, over a core that takes the record by value and gives it back. Eight only look, and take the record by value.
+// place, over a core that takes the record by value and gives it back. Nine only look, and take the record by value.
 use machine::Answer;
 use machine::ReadAnswer;
 use machine::Regs;
+use machine::WhyNumbers;
 use part_rows::ExportAnswer;
 ghost use mathlib.Core.Path.{_≡_};
 ghost use mathlib.Core.Logic.{_↔_};
@@ -20,6 +21,7 @@ ghost use Rattle.machine.specs.Audit.{audit};
 ghost use Rattle.machine.specs.Tell.{tellState};
 ghost use Rattle.machine.specs.Save.{save};
 ghost use Rattle.machine.specs.Load.{load};
+ghost use Rattle.call_why.specs.Numbers.{whyInNumbers};
 ghost use Rattle.call_export.specs.Export.{exportNumbers};
 ghost use Rattle.call_export_objects.specs.Objects.{exportObjectsNumbers};
 ghost use Rattle.dergamoyne.specs.Host.{lookIndex, version, recordSize};
@@ -37,7 +39,7 @@ pub struct LookAnswer {
 pub extern "C" fn dergamoyne_version() -> u32
     ensures { λ n. ⌜ n ≡ version ⌝ }
 {
-    5000
+    6000
 }
 
 // How many bytes a register record takes in memory.
@@ -362,4 +364,23 @@ pub extern "C" fn dergamoyne_load(
     let loaded = call_load::load(*regs, words, colours, bytes, image);
     *regs = loaded.regs;
     loaded.answer
+}
+
+// Why: the reason why the block b is still here: 1 free, 2 doomed, 3 reachable, 4 out of reach and kept. The path of a reachable block
+// is written to path, two numbers a pair, with 0 behind it; queue and came end as 0. Refused by 1; by 10 where the audit turns the heap
+// down; by 3 where b is no block; by 13 where path has fewer than 2M numbers, or queue or came fewer than M.
+#[no_mangle]
+pub extern "C" fn dergamoyne_why(
+    regs: Regs,
+    words: &[u32],
+    colours: &[u32],
+    bytes: &[u8],
+    path: &mut [u32],
+    queue: &mut [u32],
+    came: &mut [u32],
+    b: u32,
+) -> WhyNumbers
+    ensures { λ a. ⌜ (record { answer = a; path = now (path .exit); queue = now (queue .exit); came = now (came .exit) }) ≡ whyInNumbers (now (path .entry)) (now (queue .entry)) (now (came .entry)) b (heap regs (now (words .entry)) (now (colours .entry)) (now (bytes .entry))) ⌝ }
+{
+    call_why::why_numbers(regs, words, colours, bytes, path, queue, came, b)
 }

@@ -21,6 +21,7 @@ pub mod Bytes
 pub mod Steps
 pub mod Parts
 pub mod LowestBit
+pub mod Searching
 pub mod Seeing
 pub mod Marking
 pub mod Sweeping
@@ -43,6 +44,7 @@ pub mod Fours
 pub mod Images
 pub mod Frames
 pub mod Saving
+pub mod Reasoning
 pub mod Computing
 pub mod Cases
 pub mod Contracts

@@ -28,6 +28,9 @@ pub mod Image
 pub mod Frame
 pub mod Save
 pub mod Load
+pub mod Search
+pub mod Searched
+pub mod Why
 pub mod Session
 pub mod Cases
 pub mod Ready

@@ -60,6 +60,12 @@ pub const DAMAGE: u32 = 8;
 
 pub const TOO_MANY_UNITS: u32 = 9;
 
+// Those of document 02: the heap or the image is none that the audit accepts; a lent buffer has another length than it should, or is
+// too short.
+pub const BAD_HEAP: u32 = 10;
+
+pub const BAD_LENGTH: u32 = 13;
+
 // The numbers by which a state is told to the host.
 pub const TOLD_LIVE_WHITE: u32 = 1;
 
@@ -72,6 +78,15 @@ pub const TOLD_BLACK: u32 = 4;
 pub const TOLD_FREE: u32 = 5;
 
 pub const TOLD_OUTSIDE: u32 = 6;
+
+// The numbers by which a reason is told to the host.
+pub const WHY_FREE: u32 = 1;
+
+pub const WHY_DOOMED: u32 = 2;
+
+pub const WHY_REACHABLE: u32 = 3;
+
+pub const WHY_KEPT: u32 = 4;
 
 // The register record, in document 01's order.
 #[repr(C)]
@@ -145,6 +160,36 @@ pub enum State {
     Black,
     Free,
     Outside,
+}
+
+// Why a block is still here, of document 02's request L6: it is free; it is doomed; it is reachable, by a path of so many pairs; or it
+// is out of reach and not doomed, with its colour.
+pub enum Reason {
+    Free,
+    Doomed,
+    Reachable(u32),
+    Kept(Colour),
+}
+
+// The record that holds the reason.
+pub struct Why {
+    pub reason: Reason,
+}
+
+// What Why answers: refused, by this number, or the reason.
+pub enum WhyAnswer {
+    Refused(u32),
+    Told(Why),
+}
+
+// The same in numbers: reason is 0 where refusal isn't, else 1 for a free block, 2 for a doomed one, 3 for a reachable one, whose path
+// has so many pairs, 4 for one that is kept, whose state is told as State tells it.
+#[repr(C)]
+pub struct WhyNumbers {
+    pub refusal: u32,
+    pub reason: u32,
+    pub pairs: u32,
+    pub state: u32,
 }
 
 // The step that a unit takes.

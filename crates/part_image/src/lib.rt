@@ -8,11 +8,6 @@ ghost use Rattle.machine.specs.Frame.{registerCount, coloursAt, bytesAt, wordsA
 ghost use Rattle.part_image.specs.Counting.{counted};
 ghost use Rattle.part_image.specs.Placing.{placed};
 
-// The refusals of Save and Load: the audit turns the heap down, or the bytes are no image; a buffer hasn't the length asked for.
-pub const BAD_HEAP: u32 = 10;
-
-pub const BAD_LENGTH: u32 = 13;
-
 // How many registers an image has.
 const REGISTERS: u32 = 9;
 

@@ -1,7 +1,7 @@
 //! The calls over slices, with their answers in numbers. What a C caller has to see to (pointers that are aligned and not null,
 //! lengths that are true, buffers that don't overlap) the types of the slices settle, so none is `unsafe`. Any numbers, any
 //! lengths and any contents are taken, and answered by a refusal number where need be.
-use crate::raw::{self, Answer, ExportAnswer, LookAnswer, ReadAnswer, Regs};
+use crate::raw::{self, Answer, ExportAnswer, LookAnswer, ReadAnswer, Regs, WhyAnswer};
 
 /// Calls that may change the record and the buffers.
 macro_rules! changing {
@@ -119,6 +119,40 @@ pub fn load(regs: &mut Regs, words: &mut [u32], colours: &mut [u32], bytes: &mut
             bytes.len(),
             image.as_ptr(),
             image.len(),
+        )
+    }
+}
+
+/// Why: why the block b is still here. The path takes 2M numbers, a block and a word for each pair; queue and came take M each and are for
+/// working. All three may be longer, and end as 0 but for the path's pairs.
+#[allow(clippy::too_many_arguments)]
+pub fn why(
+    regs: Regs,
+    words: &[u32],
+    colours: &[u32],
+    bytes: &[u8],
+    path: &mut [u32],
+    queue: &mut [u32],
+    came: &mut [u32],
+    b: u32,
+) -> WhyAnswer {
+    // SAFETY: the pointers and lengths are those of live slices of the right types, which don't overlap.
+    unsafe {
+        raw::dergamoyne_why(
+            regs,
+            words.as_ptr(),
+            words.len(),
+            colours.as_ptr(),
+            colours.len(),
+            bytes.as_ptr(),
+            bytes.len(),
+            path.as_mut_ptr(),
+            path.len(),
+            queue.as_mut_ptr(),
+            queue.len(),
+            came.as_mut_ptr(),
+            came.len(),
+            b,
         )
     }
 }

@@ -1,6 +1,6 @@
 //! A heap that owns its record and buffers.
 use crate::calls;
-use crate::raw::{Answer, ExportAnswer, ReadAnswer, Regs};
+use crate::raw::{Answer, ExportAnswer, ReadAnswer, Regs, WhyAnswer};
 use crate::refusal::{Refusal, Refused};
 use std::fmt;
 
@@ -76,6 +76,21 @@ impl fmt::Display for State {
             State::Outside => "outside the layout",
         })
     }
+}
+
+/// Why a block is still here.
+#[derive(Clone, Debug, PartialEq, Eq)]
+pub enum Why {
+    /// It is not in use.
+    Free,
+    /// Nothing leads to it from the root, and the sweep is about to free it.
+    Doomed,
+    /// References lead to it from the root, so it stays. The path has a block and one of its words for each step: the first block is the
+    /// root, each word is a reference to the next block, and the last one names the block that was asked for. The root's path is empty.
+    /// No path is shorter, and of those equally short it is the one with the smallest words from the root on.
+    Reachable(Vec<(u32, u32)>),
+    /// Nothing leads to it from the root any more, but the collector has not found that out. It is live white, grey or black.
+    Kept(State),
 }
 
 /// What an export answers: complete with so many rows; or stopped after so many, for this reason.
@@ -189,6 +204,15 @@ impl Heap {
         Ok(State::of(done(calls::state(self.regs, &self.words, &self.colours, &self.bytes, b))?.value))
     }
 
+    /// Why the block b is still here. Its cost, in memory too, grows with the number of blocks.
+    pub fn why(&self, b: u32) -> Result<Why, Refused> {
+        let m = self.colours.len();
+        let (mut path, mut queue, mut came) = (vec![0; 2 * m], vec![0; m], vec![0; m]);
+        let a = calls::why(self.regs, &self.words, &self.colours, &self.bytes, &mut path, &mut queue, &mut came, b);
+        Refused::unless_zero(a.refusal, 0)?;
+        Ok(reason_why(a, &path))
+    }
+
     /// Word w of the block b becomes the number v.
     pub fn store_number(&mut self, b: u32, w: u32, v: u32) -> Result<(), Refused> {
         done(self.changed(|r, ws, cs, bs| calls::store_number(r, ws, cs, bs, b, w, v)))?;
@@ -252,6 +276,17 @@ fn exported(a: ExportAnswer) -> Exported {
         (3, Some(refusal)) => Exported::Stopped(a.rows, Reason::Refused(refusal)),
         (4, _) => Exported::Stopped(a.rows, Reason::NoReference),
         (other, _) => Exported::Stopped(a.rows, Reason::Unknown(other)),
+    }
+}
+
+/// The answer of a Why that is not refused, by its numbers. Another reason is none of the library's, and panics.
+fn reason_why(a: WhyAnswer, path: &[u32]) -> Why {
+    match a.reason {
+        1 => Why::Free,
+        2 => Why::Doomed,
+        3 => Why::Reachable(path.chunks(2).take(a.pairs as usize).map(|pair| (pair[0], pair[1])).collect()),
+        4 => Why::Kept(State::of(a.state)),
+        other => panic!("the library gives the reason {other}, which is none"),
     }
 }
 

@@ -18,6 +18,6 @@ mod heap;
 mod raw;
 mod refusal;
 
-pub use heap::{Allocated, Exported, Heap, Reason, State, Word};
-pub use raw::{Answer, ExportAnswer, LookAnswer, ReadAnswer, Regs};
+pub use heap::{Allocated, Exported, Heap, Reason, State, Why, Word};
+pub use raw::{Answer, ExportAnswer, LookAnswer, ReadAnswer, Regs, WhyAnswer};
 pub use refusal::{Refusal, Refused};

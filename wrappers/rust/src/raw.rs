@@ -54,8 +54,19 @@ pub struct ExportAnswer {
     pub refusal: u32,
 }
 
+/// What Why answers: a refusal number or 0; the reason, 1 free, 2 doomed, 3 reachable, 4 kept; the pairs of the path with reason 3; the
+/// state with reason 4.
+#[repr(C)]
+#[derive(Clone, Copy, Debug, PartialEq, Eq)]
+pub struct WhyAnswer {
+    pub refusal: u32,
+    pub reason: u32,
+    pub pairs: u32,
+    pub state: u32,
+}
+
 /// The version of the library that this crate is for, as `dergamoyne_version` gives it.
-pub const VERSION: u32 = 5000;
+pub const VERSION: u32 = 6000;
 
 // The library is for processors with lengths of 64 bits.
 const _: () = assert!(std::mem::size_of::<usize>() == 8);
@@ -265,4 +276,20 @@ extern "C" {
         image: *const u8,
         image_length: usize,
     ) -> Answer;
+    pub fn dergamoyne_why(
+        regs: Regs,
+        words: *const u32,
+        words_length: usize,
+        colours: *const u32,
+        colours_length: usize,
+        bytes: *const u8,
+        bytes_length: usize,
+        path: *mut u32,
+        path_length: usize,
+        queue: *mut u32,
+        queue_length: usize,
+        came: *mut u32,
+        came_length: usize,
+        b: u32,
+    ) -> WhyAnswer;
 }

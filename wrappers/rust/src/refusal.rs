@@ -58,7 +58,7 @@ impl fmt::Display for Refusal {
             Refusal::Damage => "the heap is damaged",
             Refusal::TooManyUnits => "too many units for one call",
             Refusal::NotWellFormed => "the heap is not well-formed, or the bytes are not the image of a heap that is",
-            Refusal::OtherLength => "the output is too short for the image, or the buffers are not of its lengths",
+            Refusal::OtherLength => "a buffer is too short, or the buffers are not of the image's lengths",
         })
     }
 }

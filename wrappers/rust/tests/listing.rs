@@ -1,5 +1,5 @@
 //! Document 01's listing, its refusals, the exports, and an object longer than a block, by `Heap` and by the calls over slices.
-use dergamoyne::{calls, Allocated, Exported, Heap, Reason, Refusal, Refused, Regs, State, Word};
+use dergamoyne::{calls, Allocated, Exported, Heap, Reason, Refusal, Refused, Regs, State, Why, Word};
 
 fn by(refusal: Refusal) -> Refused {
     Refused { refusal, units: 0 }
@@ -121,6 +121,54 @@ fn states() {
     for n in 1..7 {
         assert_eq!(State::of(n) as u32, n);
     }
+}
+
+/// Each reason: the root 2 names 3 by words 1 and 6; then 3 is let go, and the collector works up to the next sweep.
+#[test]
+fn whys() {
+    let mut h = Heap::new(3, 1).unwrap();
+    h.allocate(0, 0).unwrap();
+    h.allocate(2, 6).unwrap();
+    h.store_reference(2, 1, 3).unwrap();
+    h.store_reference(3, 0, 2).unwrap();
+    assert_eq!(h.why(2), Ok(Why::Reachable(vec![])));
+    assert_eq!(h.why(3), Ok(Why::Reachable(vec![(2, 1)])));
+    assert_eq!(h.why(4), Ok(Why::Free));
+    for b in [0, 1, 5, u32::MAX] {
+        assert_eq!(h.why(b), Err(by(Refusal::NoSuchWord)));
+    }
+    h.store_reference(2, 1, 0).unwrap();
+    h.store_reference(2, 6, 0).unwrap();
+    assert_eq!(h.why(3), Ok(Why::Kept(State::Black)));
+    h.work(3).unwrap();
+    assert_eq!(h.why(3), Ok(Why::Kept(State::LiveWhite)));
+    h.work(3).unwrap();
+    assert_eq!(h.why(3), Ok(Why::Doomed));
+    h.set_root(0).unwrap();
+    assert_eq!(h.why(2), Ok(Why::Kept(State::Black)));
+}
+
+/// The list 2, 3 while marking: the numbers, the buffers afterwards, and the refusals in order.
+#[test]
+fn whys_over_slices() {
+    let regs = Regs { blocks: 2, phase: 1, grey: 2, root: 2, ..Regs::default() };
+    let (mut words, bytes, mut path, mut queue, mut came) = ([0; 16], [16, 0], [7; 5], [7; 3], [7; 2]);
+    words[4] = 3;
+    let mut why = |regs, colours: &[u32], path: &mut [u32], queue: &mut [u32], b| {
+        let a = calls::why(regs, &words, colours, &bytes, path, queue, &mut came, b);
+        (a.refusal, a.reason, a.pairs, a.state)
+    };
+    assert_eq!(why(Regs { phase: 3, ..regs }, &[1], &mut path[..3], &mut queue, 9), (1, 0, 0, 0));
+    assert_eq!(why(Regs { phase: 3, ..regs }, &[1, 0], &mut path[..3], &mut queue, 9), (10, 0, 0, 0));
+    assert_eq!(why(regs, &[3, 0], &mut path[..3], &mut queue, 9), (10, 0, 0, 0));
+    assert_eq!(why(regs, &[1, 0], &mut path[..3], &mut queue, 4), (3, 0, 0, 0));
+    assert_eq!(why(regs, &[1, 0], &mut path[..3], &mut queue, 3), (13, 0, 0, 0));
+    assert_eq!(why(regs, &[1, 0], &mut path, &mut queue[..1], 3), (13, 0, 0, 0));
+    assert_eq!((path, queue), ([7; 5], [7; 3]));
+    assert_eq!(why(regs, &[1, 0], &mut path, &mut queue, 3), (0, 3, 1, 0));
+    assert_eq!((path, queue), ([2, 4, 0, 0, 0], [0; 3]));
+    assert_eq!(why(Regs { root: 0, ..regs }, &[3, 1], &mut path, &mut queue, 3), (0, 4, 0, 3));
+    assert_eq!((path, came), ([0; 5], [0; 2]));
 }
 
 /// The list 2, 3 by the links in word 0, complete and not.
@@ -257,6 +305,6 @@ fn threads() {
 /// The library is the one that the crate is for.
 #[test]
 fn version() {
-    assert_eq!(calls::version(), 5000);
+    assert_eq!(calls::version(), 6000);
     assert!(calls::fits_library());
 }

@@ -1,0 +1,2 @@
+-- Laws of the walk back to the root.
+pub mod Walks

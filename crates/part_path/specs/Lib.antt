@@ -1,0 +1,2 @@
+-- What a path is read off.
+pub mod Paths

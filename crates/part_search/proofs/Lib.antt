@@ -1,0 +1,2 @@
+-- Laws of a search in buffers.
+pub mod Steps

@@ -1,0 +1,2 @@
+-- A search in buffers.
+pub mod Lying
