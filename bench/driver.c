@@ -2,10 +2,12 @@
 
        driver lines|steps calls      each measure, on heaps of 1,024, 4,096 and 16,384 blocks
        driver lines|steps long N     N allocations while a list of 300 rows lives and garbage is made at every step
+       driver lines|steps small      a list of 100 rows on 16,384 blocks: allocations with garbage, and a whole cycle. It doesn't
+                                     touch the record, so it can be counted on an archive of an earlier release too
 
    A line of output is a call: its name, M, the measure's name, the units asked for where the measure is of units (else 0), and
    with `steps` the call's instructions. With `lines` another program counts them. `calls` prints a line for every call made,
-   `long` for every Allocate; a call that only prepares has `-` for its measure. Every heap laid out here is one that the audit
+   `long` for every Allocate, `small` for every Allocate and every Work; a call that only prepares has `-` for its measure. Every heap laid out here is one that the audit
    accepts. */
 #include "machine.h"
 #include "steps.h"
@@ -28,7 +30,7 @@ static uint32_t m, words[8 * MOST], colours[MOST];
 static uint8_t bytes[MOST];
 enum { ROOM = 7000 };
 static uint32_t out[ROOM];
-static uint8_t image[52 + 37 * MOST];
+static uint8_t image[56 + 37 * MOST];
 static uint32_t path[2 * MOST], queue[MOST], came[MOST];
 #define LENT words, 8 * (size_t)m, colours, m, bytes, m
 
@@ -103,20 +105,27 @@ static void refer(uint32_t b, uint32_t w, uint32_t t)
     bytes[b - 2] |= (uint8_t)(1u << w);
 }
 
+/* A heap whose blocks were all handed out, and are free again. */
+static void used(uint32_t u)
+{
+    fresh(u);
+    r.mark = m + 1;
+}
+
 /* Every block is allocated, of one colour, and holds eight zeroes. */
 static void all(uint32_t colour)
 {
-    fresh(1);
+    used(1);
     memset(words, 0, 32 * (size_t)m);
     for (uint32_t i = 0; i < m; i++)
         colours[i] = colour;
     r.free = r.count = 0;
 }
 
-/* Blocks 2, the root, and 3 are allocated and white, and the others are free. */
+/* Blocks 2, the root, and 3 are allocated and white, and the others are free again. */
 static void two(void)
 {
-    fresh(1);
+    used(1);
     words[0] = words[8] = 0;
     colours[0] = colours[1] = WHITE;
     r.free = 4;
@@ -181,7 +190,7 @@ static void marking_white(const char *of, uint32_t n, uint32_t k)
 static void sweeping(const char *of, uint32_t n, uint32_t colour)
 {
     if (colour == FREE)
-        fresh(1);
+        used(1);
     else
         all(colour);
     r.phase = SWEEPING;
@@ -274,10 +283,10 @@ static void until_cycle(uint32_t cycle)
         allocate(2, 1 + i % 7);
 }
 
-/* One whole cycle, after two. */
+/* One whole cycle, after two. It sweeps all blocks. */
 static void steady(const char *of, uint32_t u)
 {
-    fresh(u);
+    used(u);
     allocate(0, 0);
     until_cycle(3);
     measure(of, 0);
@@ -304,7 +313,7 @@ static void dear(uint32_t whites)
 /* An object of n blocks at pace 1 while free blocks are swept: what the larger n adds is a block and such a unit each. */
 static void chaining(uint32_t n)
 {
-    fresh(1);
+    used(1);
     r.phase = SWEEPING;
     r.position = 2;
     audit();
@@ -375,7 +384,7 @@ static void export_measures(uint32_t n)
 /* The image of the heap, written, and read back into the same buffers. */
 static void image_measures(const char *save_name, const char *load_name)
 {
-    size_t length = 52 + 37 * (size_t)m;
+    size_t length = 56 + 37 * (size_t)m;
     measure(save_name, 0);
     after(CALL(save, MACHINE_SEEN(r), LENT, image, length).refusal);
     measure(load_name, 0);
@@ -481,16 +490,56 @@ static void long_run(uint32_t n)
         step(1 + i % 7);
 }
 
+/* ---- a small report on the largest heap ---- */
+
+/* Before the mark was kept a cycle visited all blocks, so that SMALL_STEPS is about one such cycle. */
+enum { SMALL_ROWS = 100, SMALL_BEFORE = 3400, SMALL_STEPS = 1700 };
+
+/* A cycle in single units, from its start to its end. Answers how many there were. */
+static uint32_t units_of_cycle(void)
+{
+    uint32_t n = 0;
+    do {
+        work(1);
+        n++;
+    } while (r.phase != IDLE);
+    return n;
+}
+
+/* Allocations while the list lives; then, once nothing is left to be freed, a whole cycle in one Work. */
+static void small(void)
+{
+    uint32_t n;
+    m = MOST;
+    if (MACHINE(format)(&r, LENT, m, 10).refusal != 0)
+        exit(1);
+    build_list(SMALL_ROWS);
+    for (uint32_t i = 0; i < SMALL_BEFORE; i++)
+        step(1 + i % 7);
+    measure("small", 0);
+    for (uint32_t i = 0; i < SMALL_STEPS; i++)
+        step(1 + i % 7);
+    prepare();
+    if (r.phase != IDLE)
+        units_of_cycle();
+    units_of_cycle();
+    n = units_of_cycle();
+    measure("small-cycle", n);
+    work(n);
+}
+
 int main(int argc, char **argv)
 {
     static const uint32_t sizes[] = {1024, 4096, 16384};
     if (argc < 3) {
-        fprintf(stderr, "usage: driver lines|steps calls|long [N]\n");
+        fprintf(stderr, "usage: driver lines|steps calls|long|small [N]\n");
         return 2;
     }
     by_steps = strcmp(argv[1], "steps") == 0;
     if (strcmp(argv[2], "long") == 0)
         long_run(argc > 3 ? (uint32_t)strtoul(argv[3], NULL, 10) : 1000);
+    else if (strcmp(argv[2], "small") == 0)
+        small();
     else
         for (size_t i = 0; i < sizeof sizes / sizeof *sizes; i++)
             calls(sizes[i]);

@@ -29,7 +29,7 @@ struct plain_answer plain_format(struct plain_regs *r, PLAIN_LENT, uint32_t m, u
         colours[i] = FREE;
     }
     memset(bytes, 0, m);
-    *r = (struct plain_regs){.blocks = m, .pace = u, .grey = 1, .free = 2, .count = m};
+    *r = (struct plain_regs){.blocks = m, .pace = u, .grey = 1, .free = 2, .count = m, .mark = NONE_HANDED_OUT};
     return answered(0, 0, 0);
 }
 
@@ -46,23 +46,6 @@ struct plain_look_answer plain_look(const struct plain_regs *r, PLAIN_SEEN, uint
     (void)words, (void)bytes;
     uint32_t e = word_refusal(r, words_length, colours, colours_length, bytes_length, b, 0);
     return (struct plain_look_answer){e, e ? UINT32_MAX : 8 * (b - 2)};
-}
-
-/* The numbers by which State tells what a number is. */
-enum { TOLD_LIVE_WHITE = 1, TOLD_DOOMED, TOLD_GREY, TOLD_BLACK, TOLD_FREE, TOLD_OUTSIDE };
-
-static uint32_t told(const struct plain_regs *r, const uint32_t *colours, uint32_t b)
-{
-    if (!is_block(r->blocks, b))
-        return TOLD_OUTSIDE;
-    uint32_t word = colours[b - 2];
-    if (word == WHITE)
-        return r->phase == SWEEPING && b >= r->position ? TOLD_DOOMED : TOLD_LIVE_WHITE;
-    if (word == BLACK)
-        return TOLD_BLACK;
-    if (word == FREE)
-        return TOLD_FREE;
-    return is_grey(r->blocks, word) ? TOLD_GREY : TOLD_OUTSIDE;
 }
 
 struct plain_answer plain_state(const struct plain_regs *r, PLAIN_SEEN, uint32_t b)
@@ -142,7 +125,7 @@ static void grey_named(struct plain_regs *r, const uint32_t *part, uint32_t *col
 }
 
 /* Marks the first grey block. */
-static bool mark(struct plain_regs *r, const uint32_t *words, uint32_t *colours, const uint8_t *bytes)
+static bool mark_grey(struct plain_regs *r, const uint32_t *words, uint32_t *colours, const uint8_t *bytes)
 {
     uint32_t b = r->grey, next = colours[b - 2], byte = bytes[b - 2];
     const uint32_t *part = words + 8 * (size_t)(b - 2);
@@ -154,10 +137,10 @@ static bool mark(struct plain_regs *r, const uint32_t *words, uint32_t *colours,
     return true;
 }
 
-/* The position moves on; after the last block the heap is idle. */
+/* The position moves on; after the mark the heap is idle. */
 static void advance(struct plain_regs *r)
 {
-    if (r->position == r->blocks + 1) {
+    if (r->position == r->mark) {
         r->phase = IDLE;
         r->position = 0;
     } else {
@@ -207,6 +190,18 @@ static bool start(struct plain_regs *r, uint32_t *colours)
     return true;
 }
 
+/* Turns to the sweep. Where no block was ever handed out there is nothing to sweep, and the cycle ends. */
+static bool turn(struct plain_regs *r)
+{
+    if (r->mark == NONE_HANDED_OUT) {
+        r->phase = IDLE;
+    } else {
+        r->phase = SWEEPING;
+        r->position = 2;
+    }
+    return true;
+}
+
 /* One unit. */
 static bool unit(struct plain_regs *r, uint32_t *words, uint32_t *colours, uint8_t *bytes)
 {
@@ -214,11 +209,7 @@ static bool unit(struct plain_regs *r, uint32_t *words, uint32_t *colours, uint8
         return sweep(r, words, colours, bytes);
     if (r->phase == IDLE)
         return start(r, colours);
-    if (r->grey != 1)
-        return mark(r, words, colours, bytes);
-    r->phase = SWEEPING;
-    r->position = 2;
-    return true;
+    return r->grey != 1 ? mark_grey(r, words, colours, bytes) : turn(r);
 }
 
 /* At most n units; answers how many were done. */
@@ -262,6 +253,13 @@ static uint32_t list_refusal(const struct plain_regs *r, const uint32_t *words, 
     return is_block_or_none(r->blocks, words[8 * (size_t)(r->free - 2)]) ? 0 : 8;
 }
 
+/* A block was handed out. */
+static void raise_mark(struct plain_regs *r, uint32_t b)
+{
+    if (b > r->mark)
+        r->mark = b;
+}
+
 /* Takes the first free block and answers it. */
 static uint32_t take(struct plain_regs *r, uint32_t *words, uint32_t *colours)
 {
@@ -271,6 +269,7 @@ static uint32_t take(struct plain_regs *r, uint32_t *words, uint32_t *colours)
     r->count--;
     words[8 * (size_t)(x - 2)] = 0;
     colours[x - 2] = black ? BLACK : WHITE;
+    raise_mark(r, x);
     return x;
 }
 
@@ -348,6 +347,7 @@ static uint32_t take_chain(struct plain_regs *r, uint32_t *words, uint32_t *colo
         part[LINK] = n == 1 ? 0 : next;
         bytes[b - 2] |= 1u << LINK;
         colours[b - 2] = b >= black_from ? BLACK : WHITE;
+        raise_mark(r, b);
         if (n == 1) {
             r->free = next;
             return first;

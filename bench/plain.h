@@ -9,8 +9,9 @@
 #include <stddef.h>
 #include <stdint.h>
 
+/* mark is the highest block handed out since Format, 1 if there is none: the sweep ends there. It has nothing to do with marking. */
 struct plain_regs {
-    uint32_t blocks, pace, phase, grey, free, count, position, root, cycle;
+    uint32_t blocks, pace, phase, grey, free, count, position, root, cycle, mark;
 };
 
 struct plain_answer {

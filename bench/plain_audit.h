@@ -56,7 +56,7 @@ static bool block_passes(const struct plain_regs *r, const struct source *s, uin
     uint32_t word = colour_at(s, b);
     if (word == FREE)
         return is_clear(s, b);
-    if (!colour_passes(r, word, b))
+    if (b > r->mark || !colour_passes(r, word, b))
         return false;
     if (doomed(r, word, b))
         return true;

@@ -1,5 +1,5 @@
-/* What a number and a colour word mean on a heap of m blocks, and the refusals 1 and 2: what the plain machine's calls and its
-   audit share. */
+/* What a number and a colour word mean on a heap of m blocks, the refusals 1 and 2, and what State tells: what the plain machine's
+   calls and its audit share. */
 #ifndef PLAIN_LAYOUT_H
 #define PLAIN_LAYOUT_H
 
@@ -20,6 +20,9 @@ static inline bool is_block_or_none(uint32_t m, uint32_t b)
 {
     return b == 0 || is_block(m, b);
 }
+
+/* The mark of a heap whose blocks were never handed out. */
+enum { NONE_HANDED_OUT = 1 };
 
 /* A colour word that is 1 or a block. */
 static inline bool is_grey(uint32_t m, uint32_t word)
@@ -50,8 +53,8 @@ static inline bool legal(const struct plain_regs *r)
 {
     uint32_t m = r->blocks;
     return r->phase <= SWEEPING && (r->grey == 1 || (r->phase == MARKING && is_block(m, r->grey))) &&
-           is_block_or_none(m, r->free) && is_block_or_none(m, r->root) && r->count <= m &&
-           (r->phase == SWEEPING ? is_block(m, r->position) : r->position == 0);
+           is_block_or_none(m, r->free) && is_block_or_none(m, r->root) && r->count <= m && r->mark >= 1 && r->mark <= m + 1 &&
+           (r->phase == SWEEPING ? r->position >= 2 && r->position <= r->mark : r->position == 0);
 }
 
 /* 1, 2 or 0. */
@@ -60,6 +63,23 @@ static inline uint32_t entry(const struct plain_regs *r, size_t words_length, si
     if (!fits(r->blocks, r->pace, words_length, colours_length, bytes_length))
         return 1;
     return legal(r) ? 0 : 2;
+}
+
+/* The numbers by which State tells what a number is, and Why the colour of a block. */
+enum { TOLD_LIVE_WHITE = 1, TOLD_DOOMED, TOLD_GREY, TOLD_BLACK, TOLD_FREE, TOLD_OUTSIDE };
+
+static inline uint32_t told(const struct plain_regs *r, const uint32_t *colours, uint32_t b)
+{
+    if (!is_block(r->blocks, b))
+        return TOLD_OUTSIDE;
+    uint32_t word = colours[b - 2];
+    if (word == WHITE)
+        return r->phase == SWEEPING && b >= r->position ? TOLD_DOOMED : TOLD_LIVE_WHITE;
+    if (word == BLACK)
+        return TOLD_BLACK;
+    if (word == FREE)
+        return TOLD_FREE;
+    return is_grey(r->blocks, word) ? TOLD_GREY : TOLD_OUTSIDE;
 }
 
 /* What the audit finds out, for Save too. */

@@ -2,8 +2,7 @@
 #include "plain_layout.h"
 #include <string.h>
 
-/* What State tells of a block, and the reasons, as the library's header numbers them. */
-enum { STATE_DOOMED = 2, STATE_FREE = 5 };
+/* The reasons, as the library's header numbers them. */
 enum { REASON_FREE = 1, REASON_DOOMED, REASON_REACHABLE, REASON_KEPT };
 
 /* How the search came to a block: not at all; as the root; else 8 times the block that names it, plus the word. */
@@ -73,10 +72,10 @@ struct plain_why_answer plain_why(const struct plain_regs *r, PLAIN_SEEN, uint32
         return a;
     memset(path, 0, path_length * sizeof *path);
     memset(came, 0, came_length * sizeof *came);
-    state = plain_state(r, words, words_length, colours, colours_length, bytes, bytes_length, b).value;
-    if (state == STATE_FREE) {
+    state = told(r, colours, b);
+    if (state == TOLD_FREE) {
         a.reason = REASON_FREE;
-    } else if (state == STATE_DOOMED) {
+    } else if (state == TOLD_DOOMED) {
         a.reason = REASON_DOOMED;
     } else {
         search(r, words, bytes, queue, came);

@@ -71,7 +71,21 @@ function worst_row(text, machine,    k) {
     printf "| %s | %s | %s | %s | %s |\n", text, shown(sum[k] / calls[k]), shown(largest[k]), shown(largest[key(machine, "dear", 1024)]), time(largest[key(machine, "dear", 1024)])
 }
 
+# Of the small report: Allocate's mean, a whole cycle, and its units.
+function small_row(text, machine) {
+    printf "| %s | %s | %s | %s |\n", text, shown(value(machine, "small", 16384)), shown(value(machine, "small-cycle", 16384)), shown(units[key(machine, "small-cycle", 16384)])
+}
+
+function small_table() {
+    print "\n### A small report on the largest heap: 100 rows, U = 10, M = 16,384\n"
+    printf "| Instructions | Allocate, mean of %s | A whole cycle in one Work | Units of that cycle |\n", shown(calls[key("proved", "small", 16384)])
+    print "|---|---:|---:|---:|"
+    small_row("Proved", "proved")
+    small_row("Plain C", "plain")
+}
+
 END {
+    if (small) { small_table(); exit }
     print "\n### Each unit and each call\n"
     print "| Instructions | Proved | Plain C | Mark to reach | Hand-tuned C |"
     print "|---|---:|---:|---:|---:|"
@@ -115,6 +129,8 @@ END {
     print "|---|---:|---:|---:|---:|"
     worst_row("Proved", "proved")
     worst_row("Plain C", "plain")
+
+    small_table()
 
     print "\n### Objects longer than a block, M = 1,024\n"
     print "| Instructions of Allocate chain | Each block, with its unit | The unit: sweeping a free block | Each block beyond its unit |"

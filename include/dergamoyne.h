@@ -49,7 +49,7 @@
        colours    M of 32 bits      4 bytes a block     what the collector knows of each block
        bytes      M of  8 bits      1 byte  a block     which words are references: bit w of bytes[b - 2] is for word w
 
-   Together with the record's 36 bytes that is 37M + 36 bytes: 37,036 for 1,000 blocks, 606,244 for 16,384. A call uses this
+   Together with the record's 40 bytes that is 37M + 40 bytes: 37,040 for 1,000 blocks, 606,248 for 16,384. A call uses this
    memory while it runs and keeps no pointer to it. Between calls you may move a heap or copy it. To take it to another process or
    another machine, Save writes it as one string of bytes, its image, and Load reads it back. docs/IMAGE.md has the format.
 
@@ -99,9 +99,11 @@
    size of the library's record. Compare them when your program starts; dergamoyne_heap.h does. CHANGELOG.md says what each
    version changes.
 
-   Later versions will add registers to the record. So start with a record of zeroes, write sizeof and never 36, use the fields
+   Later versions will add registers to the record. So start with a record of zeroes, write sizeof and never 40, use the fields
    by name and not by order, and compile with the header of the version that you link. You may read the fields; only the calls
-   should write to them.
+   should write to them. A program that keeps a record of its own has to be compiled again when the record grows, as it did with
+   0.7.0, which added mark. A record that an earlier version kept doesn't have that field; take its heap over by an image, which
+   Load reads from every earlier version.
 
 
    WHAT IS PROVED
@@ -122,8 +124,8 @@
 #include <stdint.h>
 
 /* The version: 1,000,000 for each major, 1,000 for each minor, 1 for each patch. */
-#define DERGAMOYNE_VERSION 6000u
-#define DERGAMOYNE_VERSION_TEXT "0.6.0"
+#define DERGAMOYNE_VERSION 7000u
+#define DERGAMOYNE_VERSION_TEXT "0.7.0"
 
 /* Marks a function whose answer must not be ignored: the compiler warns if it is. */
 #ifndef DERGAMOYNE_MUST_USE
@@ -150,8 +152,10 @@ enum {
     DERGAMOYNE_OBJECT_FIELDS = 1792 /* the most fields of an object */
 };
 
-/* The length in bytes of the image of a heap of m blocks. */
-#define DERGAMOYNE_IMAGE_BYTES(m) (52 + 37 * (size_t)(m))
+/* The length in bytes of the image of a heap of m blocks, as Save writes it; and of the images that versions before 0.7.0 wrote,
+   without the mark, which Load reads too. */
+#define DERGAMOYNE_IMAGE_BYTES(m) (56 + 37 * (size_t)(m))
+#define DERGAMOYNE_EARLIER_IMAGE_BYTES(m) (52 + 37 * (size_t)(m))
 
 /* The numbers of the buffer that Why needs for the path on a heap of m blocks: two for a pair, m pairs. */
 #define DERGAMOYNE_PATH_NUMBERS(m) (2 * (size_t)(m))
@@ -200,9 +204,11 @@ struct dergamoyne_regs {
     uint32_t grey;     /* the first block of the grey list, 1 if there is none */
     uint32_t free;     /* the first free block, 0 if there is none; how many are free is in count */
     uint32_t count;    /* how many blocks are free */
-    uint32_t position; /* the block that the sweep looks at next, 0 when not sweeping */
+    uint32_t position; /* the block that the sweep looks at next, 0 when not sweeping; at most the mark */
     uint32_t root;     /* the root, 0 if there is none */
     uint32_t cycle;    /* how many cycles have begun; after 4,294,967,295 comes 0 */
+    uint32_t mark;     /* the highest block handed out since Format, 1 if there is none: the sweep ends after it, since the blocks
+                          above it are free. It never falls, except by Format and Load. It has nothing to do with marking */
 };
 
 /* What most calls answer: a refusal or 0; a value, 0 if the call has none or is refused; and the units done. */
@@ -287,7 +293,7 @@ struct dergamoyne_why_answer {
 
 /* These don't compile if the compiler lays the structs out differently from this version of the library. They can't detect a
    library of another version; dergamoyne_record_size() does that. */
-typedef char dergamoyne_regs_is_36_bytes[sizeof(struct dergamoyne_regs) == 36 ? 1 : -1];
+typedef char dergamoyne_regs_is_40_bytes[sizeof(struct dergamoyne_regs) == 40 ? 1 : -1];
 typedef char dergamoyne_answer_is_12_bytes[sizeof(struct dergamoyne_answer) == 12 ? 1 : -1];
 typedef char dergamoyne_read_answer_is_16_bytes[sizeof(struct dergamoyne_read_answer) == 16 ? 1 : -1];
 typedef char dergamoyne_look_answer_is_8_bytes[sizeof(struct dergamoyne_look_answer) == 8 ? 1 : -1];
@@ -388,8 +394,8 @@ DERGAMOYNE_MUST_USE struct dergamoyne_answer dergamoyne_set_root(
     struct dergamoyne_regs *regs, uint32_t *words, size_t words_length, uint32_t *colours, size_t colours_length,
     uint8_t *bytes, size_t bytes_length, uint32_t t);
 
-/* Work: does n units, at most 65,535, when your program has time. A cycle of the collector has 2 + M units and one more for each
-   block that it marks. A block that can't be reached when a cycle begins has been freed by its end, unless a store or a root
+/* Work: does n units, at most 65,535, when your program has time. A cycle of the collector has 2 units, one for each block that it
+   marks, and one for each block at or below the mark, which it sweeps: 2 * mark at most. A block that can't be reached when a cycle begins has been freed by its end, unless a store or a root
    change named an unreachable block in the meantime. Refusals: 1, 2, 9; 8 if a unit meets damage, and then the units before it
    stay done. */
 DERGAMOYNE_MUST_USE struct dergamoyne_answer dergamoyne_work(
@@ -424,7 +430,7 @@ DERGAMOYNE_MUST_USE struct dergamoyne_export_answer dergamoyne_export_objects(
 /* CALLS THAT YOU USE ONCE, OR SELDOM. Their cost grows with M. */
 
 /* Format: makes a heap of m blocks with the pace u, whatever the record and the buffers contained. All blocks are free, there is
-   no root, the collector is idle, and the cycle number is 0. The lengths must fit m. Refusal: 1, and then the old heap is as it
+   no root, the collector is idle, the cycle number is 0, and the mark is 1. The lengths must fit m. Refusal: 1, and then the old heap is as it
    was. */
 DERGAMOYNE_MUST_USE struct dergamoyne_answer dergamoyne_format(
     struct dergamoyne_regs *regs, uint32_t *words, size_t words_length, uint32_t *colours, size_t colours_length,
@@ -447,7 +453,8 @@ DERGAMOYNE_MUST_USE struct dergamoyne_answer dergamoyne_save(
 
 /* Load: the record and the buffers become the heap of the image, exactly as it was when it was saved: M, the pace and the state of
    the collector too. What they held before is gone, and it isn't looked at. image_length is the whole image and nothing more. The
-   buffers must have its heap's lengths, 8M, M and M; M is (image_length - 52) / 37. The image is tested as Audit tests a heap,
+   buffers must have its heap's lengths, 8M, M and M; M is (image_length - 52) / 37, rounded down. An image that a version before
+   0.7.0 wrote has no mark, and is four bytes shorter; it is read with the mark at M + 1. The image is tested as Audit tests a heap,
    before anything is written. It has no checksum: if its bytes were changed so that they are the image of another well-formed
    heap, Load reads that one. The value is 0. Refusals: 10 for a bad image, 13 for buffers of other lengths. A refusal writes
    nothing. */

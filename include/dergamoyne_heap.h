@@ -562,10 +562,10 @@ DERGAMOYNE_REFUSABLE dergamoyne_heap_work(struct dergamoyne_heap *h, uint32_t un
 }
 
 /* Frees everything that can't be reached: it finishes the running cycle and then does a whole one. The cost grows with the number
-   of blocks. Refusals: 1, 2; 8. */
+   of blocks that were ever in use since the heap was opened. Refusals: 1, 2; 8. */
 DERGAMOYNE_REFUSABLE dergamoyne_heap_collect(struct dergamoyne_heap *h)
 {
-    uint32_t cycle = h->regs.blocks <= DERGAMOYNE_MOST_BLOCKS ? 2 * h->regs.blocks + 2 : 0;
+    uint32_t cycle = h->regs.mark <= DERGAMOYNE_MOST_BLOCKS + 1 ? 2 * h->regs.mark : 0; /* the most units a cycle takes */
     enum dergamoyne_refusal refusal = dergamoyne_heap_work(h, cycle);
     return refusal == DERGAMOYNE_DONE ? dergamoyne_heap_work(h, cycle) : refusal;
 }
@@ -724,15 +724,24 @@ DERGAMOYNE_REFUSABLE dergamoyne_heap_lend_image(struct dergamoyne_heap *h, const
     return (enum dergamoyne_refusal)a.refusal;
 }
 
+/* How many blocks the heap of an image has, by its length, also where an earlier version wrote it; 0 if no image is so long. */
+static inline size_t dergamoyne_image_blocks_(size_t image_length)
+{
+    size_t blocks = image_length < DERGAMOYNE_EARLIER_IMAGE_BYTES(1) ? 0 : (image_length - DERGAMOYNE_EARLIER_IMAGE_BYTES(0)) / 37;
+    if (image_length != DERGAMOYNE_IMAGE_BYTES(blocks) && image_length != DERGAMOYNE_EARLIER_IMAGE_BYTES(blocks))
+        return 0;
+    return blocks <= DERGAMOYNE_MOST_BLOCKS ? blocks : 0;
+}
+
 /* Opens the heap of an image; it owns its memory, as after dergamoyne_heap_open. The length tells how many blocks it has. Refusals:
    10, 100, 101; then there is nothing to close. */
 DERGAMOYNE_REFUSABLE dergamoyne_heap_open_image(struct dergamoyne_heap *h, const uint8_t *image, size_t image_length)
 {
-    size_t blocks = image_length < DERGAMOYNE_IMAGE_BYTES(1) ? 0 : (image_length - DERGAMOYNE_IMAGE_BYTES(0)) / 37;
+    size_t blocks = dergamoyne_image_blocks_(image_length);
     enum dergamoyne_refusal refusal;
     uint32_t *memory;
     dergamoyne_heap_none(h);
-    if (blocks == 0 || blocks > DERGAMOYNE_MOST_BLOCKS || image_length != DERGAMOYNE_IMAGE_BYTES(blocks))
+    if (blocks == 0)
         return DERGAMOYNE_NOT_WELL_FORMED;
     memory = (uint32_t *)calloc(blocks, 37);
     if (memory == NULL)

@@ -144,6 +144,7 @@ def state_case(rng):
     if draw.chance(rng, 0.3) and h.colours:
         h.phase, h.grey_head = machine.SWEEPING, machine.GREY_END
         h.position = draw.between(rng, 2, len(h.colours) + 1)
+        h.mark = max(h.mark, h.position)
     if draw.chance(rng, 0.4):
         draw.damage(rng, h)
     number = draw.small_number(rng, h.M)
@@ -200,7 +201,8 @@ def drawn_whys(rng, count):
 
 def images_gone_over():
     """The images worked out by hand: saved and loaded; cut at every length; with
-    every byte changed."""
+    every byte changed. Those of nine registers: loaded, cut, and the same changes.
+    And some of other counts of registers."""
     rng = random.Random(107)
     for h, image in images.by_hand():
         lent = draw_images.other_heap(rng, h.M)
@@ -211,6 +213,14 @@ def images_gone_over():
         others = lambda byte: [byte ^ 1, 255] if h.M == 1 else [byte ^ 1]
         for changed in draw_images.changes(image, others):
             yield case("load", [], lent, changed)
+    for h, image in images.earlier_by_hand():
+        lent = draw_images.other_heap(rng, h.M)
+        for cut in draw_images.cuts(image) if h.M < 3 else [image]:
+            yield case("load", [], lent, cut)
+        for changed in draw_images.changes(image, lambda byte: [byte ^ 1]):
+            yield case("load", [], lent, changed)
+        for count in (0, 1, 8, 11):
+            yield case("load", [], lent, images.encode_with(h, count))
 
 
 def stored():

@@ -20,12 +20,11 @@ CHAIN, READ, NUMBER, REFERENCE = ("allocate_chain", "read_field", "store_field_n
 
 def idle():
     """Idle, pace 1: the root is the object of blocks 2 and 3, both white; 4, 5,
-    6, 7 are free, in this order. Two units begin a cycle and turn to the sweep,
-    the object is taken, six more sweep all blocks."""
+    6, 7 are free, in this order. Two units begin a cycle and end it, since nothing
+    was handed out yet; then the object is taken, and the mark is 3."""
     h = machine.empty_heap(6)
     machine.format(h, 6, 1)
     chains.allocate_chain(h, 0, 0, 2)
-    machine.work(h, 6)
     return h
 
 
@@ -42,11 +41,12 @@ def dooming():
 
 
 def marking():
-    """Block 4 hangs from field 7, which is word 0 of block 3. Two units: 2 is
-    black, 3 is the only grey block, 4 is white."""
+    """Block 4 hangs from field 7, which is word 0 of block 3. It is taken when a
+    cycle has begun; six units mark 2 and 3, turn, and sweep 2, 3 and 4. Two units:
+    2 is black, 3 is the only grey block, 4 is white."""
     h = idle()
     machine.allocate(h, 3, 0)
-    machine.work(h, 9)
+    machine.work(h, 6)
     machine.work(h, 2)
     return h
 
@@ -55,7 +55,7 @@ def marking():
 
 def units_and_holder():
     """From idle() the units are: a cycle begins, 2 is marked, 3 is marked, the
-    turn, then sweeping from 2 on."""
+    turn, 2 and 3 are swept, and so on."""
     for n in (1, 2, 3, 4):
         yield "the first n of the free list", CHAIN, (2, 0, n), idle(), (0, 4, n)
         yield "the first n of the free list", CHAIN, (0, 0, n), idle(), (0, 4, n)
@@ -146,13 +146,31 @@ def fresh(M):
 
 
 def longest():
-    """256 units: a cycle begins, the turn, 2 to 255 are swept. All blocks are
-    taken; the last two are black. Field 1,791 is word 6 of block 257."""
+    """256 units: a cycle begins, the turn ends it, 128 times over. All blocks are
+    taken, all white, and the mark is 257. Field 1,791 is word 6 of block 257."""
     yield "256 blocks", CHAIN, (0, 0, 256), fresh(256), (0, 2, 256)
     yield "255 are free", CHAIN, (0, 0, 256), fresh(255), (7, 0, 256)
     h = fresh(256)
     chains.allocate_chain(h, 0, 0, 256)
     yield "the last field", READ, (2, 1791), but(h, word={(257, 6): 9}), (0, 9, 0, False)
+
+
+# -------------------------------------------------------------------- the mark
+
+def handed_out():
+    """Each block of a chain raises the mark, whatever the list's order."""
+    for make in (idle, dropped, dooming, marking):
+        yield "a chain raises the mark to its highest block", CHAIN, (0, 0, 2), make(), (
+            0, {idle: 4, dropped: 4, dooming: 3, marking: 5}[make], 2)
+    h = but(idle(), free_head=7, word={(7, 0): 4, (4, 0): 5, (5, 0): 6, (6, 0): 0})
+    yield "the first is the highest", CHAIN, (0, 0, 3), h, (0, 7, 3)
+    h = but(idle(), free_head=7, word={(7, 0): 6, (6, 0): 5, (5, 0): 4, (4, 0): 0}, mark=5)
+    yield "a falling list", CHAIN, (0, 0, 4), h, (0, 7, 4)
+    yield "with mark 1 nothing is swept and freed", CHAIN, (0, 0, 3), but(dropped(), mark=1), (0, 4, 3)
+    for mark in (2, 4, 6, 7):
+        yield "with a mark 2 is freed first", CHAIN, (0, 0, 3), but(dropped(), mark=mark), (0, 2, 3)
+    yield "7 leaves the mark", CHAIN, (0, 0, 5), idle(), (7, 0, 5)
+    yield "8 leaves the mark", CHAIN, (0, 0, 3), but(idle(), {6: WHITE}), (8, 0, 3)
 
 
 # --------------------------------------------------------------------- fields
@@ -246,10 +264,11 @@ def entry():
             yield "a length, M or U that does not fit", name, numbers, h, (1, 0, 0, *more)
         for h in [but(idle(), phase=3), but(idle(), grey_head=2), but(idle(), free_head=1),
                   but(idle(), root=OUT), but(idle(), free_count=7), but(dooming(), position=1),
-                  but(idle(), position=2)]:
+                  but(idle(), position=2), but(idle(), mark=0), but(idle(), mark=OUT),
+                  but(dooming(), position=4), but(dooming(), mark=1)]:
             yield "registers not legal", name, numbers, h, (2, 0, 0, *more)
 
 
 def cases():
-    for part in (units_and_holder, pace_0, taking, longest, fields, walked, targets, entry):
+    for part in (units_and_holder, pace_0, taking, longest, handed_out, fields, walked, targets, entry):
         yield from part()

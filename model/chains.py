@@ -65,10 +65,9 @@ def allocate_chain(h, block, word, n):
     h.free_head = machine.get_word(h, taken[-1], 0)
     h.free_count -= n
     for new, following in zip(taken, [*taken[1:], NO_BLOCK]):
-        machine.put_word(h, new, 0, 0)
+        machine.hand_out(h, new)
         machine.put_word(h, new, LINK, following)
         machine.put_bit(h, new, LINK, True)
-        machine.put_colour(h, new, machine.colour_of_new(h, new))
     if block == NO_BLOCK:
         h.root = taken[0]
     else:

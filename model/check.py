@@ -36,38 +36,54 @@ def equal(got, wanted, where):
     need(got == wanted, f"{where}: got {got}, wanted {wanted}")
 
 
-def after_case_4():
-    """The heap of hand-checked cases 1 to 4, checked on the way."""
+def after_case_3():
+    """The heap of hand-checked cases 1 to 3, checked on the way."""
     h = formatted(3, 1)
     equal(h.colours, [FREE] * 3, "case 1 colours")
-    equal(h.words[0::8], [3, 4, 0], "case 1 words 0")
+    equal((h.words[0::8], h.mark), ([3, 4, 0], 1), "case 1 words 0 and mark")
     equal(machine.allocate(h, 0, 0), (0, 2, 1), "case 2 answer")
-    equal((h.colours[0], h.root, h.phase, h.cycle), (BLACK, 2, 1, 1), "case 2 heap")
+    equal((h.colours[0], h.root, h.phase, h.cycle, h.mark), (BLACK, 2, 1, 1, 2), "case 2 heap")
     equal(machine.allocate(h, 2, 0), (0, 3, 1), "case 3 answer")
-    equal((h.colours[1], h.phase, h.position), (BLACK, 2, 2), "case 3 heap")
+    equal((h.colours[1], h.phase, h.position, h.mark), (BLACK, 2, 2, 3), "case 3 heap")
+    return h
+
+
+def after_case_4():
+    """Work 3. Two units sweep 2 and 3; 3 is the mark, so the cycle is over after
+    4 units. The third unit begins the next: the root is grey."""
+    h = after_case_3()
     equal(machine.work(h, 3), (0, 0, 3), "case 4 answer")
-    equal((h.colours, h.phase), ([WHITE, WHITE, FREE], 0), "case 4 heap")
+    equal((h.colours, h.phase, h.position, h.grey_head, h.cycle), ([1, WHITE, FREE], 1, 0, 2, 2), "case 4 heap")
     return h
 
 
 def hand_checked_cases():
+    """Document 01's, with the same inputs; 4 to 8 worked out afresh with the mark."""
     h = after_case_4()
+    # 5. The four units mark 2, turn, sweep 2 and sweep 3, which is freed: the
+    # cycle is over after 5 units, 2 + 1 + 2.
     equal(machine.store_reference(h, 2, 0, 0), (0, 0, 0), "case 5 store")
     equal(machine.work(h, 4), (0, 0, 4), "case 5 work")
-    equal(h.position, 3, "case 5 position")
-    equal(facts.doomed(h), {3}, "case 5 doomed")
+    equal((h.phase, h.position, h.cycle, h.colours), (0, 0, 2, [WHITE, FREE, FREE]), "case 5 heap")
+    equal((h.words[8], h.free_head, h.free_count, h.mark), (4, 3, 2, 3), "case 5 free list and mark")
     equal(machine.read(h, 3, 0), (5, 0, 0, False), "case 5 read")
     equal(machine.store_reference(h, 2, 1, 3), (6, 0, 0), "case 6")
+    # 7. The next cycle begins, and its first unit of marking makes 2 black.
     equal(machine.work(h, 1), (0, 0, 1), "case 7 work")
-    equal((h.colours[1], h.words[8], h.free_head, h.free_count), (FREE, 4, 3, 2), "case 7")
+    equal((h.phase, h.cycle, h.colours, h.grey_head), (1, 3, [1, FREE, FREE], 2), "case 7")
     equal(machine.work(h, 1), (0, 0, 1), "case 7 work 1 more")
-    equal((h.phase, 4 + 1 + 1), (0, 2 + 1 + 3), "case 7 units in the cycle")
+    equal((h.phase, h.colours, h.grey_head), (1, [BLACK, FREE, FREE], 1), "case 7, 1 more")
+    equal((h.words[8], h.free_head, h.free_count), (4, 3, 2), "case 7 free list")
+    # 8. The first unit marks 2 and greys 3, the second marks 3: it is black
+    # when the last store names it, so no barrier acts.
     h = after_case_4()
     machine.work(h, 1)
+    equal((h.colours, h.grey_head), ([BLACK, 1, FREE], 3), "case 8, after Work 1")
     machine.store_reference(h, 2, 0, 0)
     machine.work(h, 1)
     equal(machine.store_reference(h, 2, 1, 3), (0, 0, 0), "case 8 store")
-    equal((h.colours[1], h.grey_head), (1, 3), "case 8 heap")
+    equal((h.colours, h.grey_head, h.phase), ([BLACK, BLACK, FREE], 1, 1), "case 8 heap")
+    equal((h.words[:2], h.bytes[0]), ([0, 3], 3), "case 8 words")
     h = formatted(1, 1)
     machine.allocate(h, 0, 0)
     equal(machine.allocate(h, 2, 0), (7, 0, 1), "case 9")
@@ -86,6 +102,113 @@ def hand_checked_cases():
     equal([facts.has_room(1024, 10, K) for K in (614, 615)], [True, False], "case 12")
     equal((facts.N(3, 8), facts.has_room(3, 8, 1)), (1, True), "case 13")
     return "13 cases"
+
+
+def what_cases_5_to_8_showed():
+    """What document 01's cases 5 to 8 were there to show, which with the mark shows
+    one unit earlier: a doomed block, its sweep, and the barrier."""
+    h = after_case_4()
+    machine.store_reference(h, 2, 0, 0)
+    equal(machine.work(h, 3), (0, 0, 3), "mark 2, turn, sweep 2")
+    equal((h.phase, h.position, facts.doomed(h)), (2, 3, {3}), "3 is doomed")
+    equal(machine.read(h, 3, 0), (5, 0, 0, False), "Read of a doomed block")
+    equal(machine.store_reference(h, 2, 1, 3), (6, 0, 0), "a doomed target")
+    equal(machine.work(h, 1), (0, 0, 1), "sweep 3")
+    equal((h.colours[1], h.words[8], h.free_head, h.free_count, h.phase), (FREE, 4, 3, 2, 0), "3 is free")
+    h = after_case_4()
+    machine.store_reference(h, 2, 0, 0)
+    machine.work(h, 1)
+    equal(machine.store_reference(h, 2, 1, 3), (0, 0, 0), "a white target while marking")
+    equal((h.colours[1], h.grey_head), (1, 3), "it is greyed")
+    return "as worked out"
+
+
+def counted_units(h):
+    """How many units a cycle takes that starts now, with no call in between."""
+    need(h.phase == facts.IDLE, "no cycle starts here", h)
+    count = 0
+    while count == 0 or h.phase != facts.IDLE:
+        need(machine.unit(h), "a unit meets damage", h)
+        count += 1
+    return count
+
+
+def small_reports():
+    """A small report on a large heap. On 16,384 blocks at pace 1 the rows 2 to 101
+    hang from each other, 100 of them: each Allocate does a unit, and once all is
+    built and a cycle has ended, a cycle takes 2 + 100 + 100 units. Of 50 rows let go
+    a cycle marks 50 and still visits 100. None of it goes near the other blocks."""
+    h = formatted(16384, 1)
+    for row in range(100):
+        equal(machine.allocate(h, row + 1 if row else 0, 0), (0, row + 2, 1), f"row {row}")
+        equal(h.mark, row + 2, "the mark is the row handed out last")
+    untouched = h.words[8 * 100:]
+    while h.phase != facts.IDLE:
+        machine.work(h, 1)
+    equal(counted_units(h), 2 + 100 + 100, "a cycle of 100 rows")
+    machine.store_reference(h, 51, 0, 0)
+    equal(counted_units(h), 2 + 50 + 100, "a cycle that frees 50 rows")
+    equal((h.free_count, h.free_head, h.mark), (16384 - 50, 101, 101), "the mark doesn't fall")
+    machine.set_root(h, 0)
+    equal(counted_units(h), 2 + 0 + 100, "a cycle that marks nothing")
+    equal((h.free_count, h.free_head, h.mark), (16384, 51, 101), "all are free")
+    equal(h.words[8 * 100:], untouched, "blocks never handed out")
+    machine.format(h, 16384, 1)
+    equal((h.mark, counted_units(h)), (1, 2), "Format sets the mark to 1")
+    return "16,384 blocks, 100 rows"
+
+
+def cycles_without_a_sweep():
+    """With mark 1 the turn ends the cycle: 2 units, phase 0 and position 0 after
+    each second one."""
+    h = formatted(4, 1)
+    for cycle in range(1, 4):
+        equal(machine.work(h, 1), (0, 0, 1), "a cycle begins")
+        equal((h.phase, h.cycle, h.position), (1, cycle, 0), "marking, nothing grey")
+        equal(machine.work(h, 1), (0, 0, 1), "the turn")
+        equal((h.phase, h.cycle, h.position, h.mark), (0, cycle, 0, 1), "idle")
+    equal(machine.allocate(h, 0, 0), (0, 2, 1), "the first block, while marking")
+    equal((h.colours[0], h.mark, h.cycle), (BLACK, 2, 4), "it is black")
+    equal(machine.work(h, 1), (0, 0, 1), "the turn")
+    equal((h.phase, h.position), (2, 2), "now there is a block to sweep")
+    equal(machine.work(h, 1), (0, 0, 1), "the sweep of 2")
+    equal((h.phase, h.colours[0]), (0, WHITE), "the cycle took 3 units: 2 + 0 + 1")
+    return "as worked out"
+
+
+def takes_and_the_mark():
+    """A block taken while the sweep is under way raises the mark, and the same sweep
+    visits it. One taken while idle comes after the cycle's last unit: the next
+    cycle's sweep visits it. One taken below the mark leaves it."""
+    h = formatted(5, 1)
+    machine.allocate(h, 0, 0)           # begins a cycle; 2 is black
+    machine.work(h, 1)                  # the turn: position 2, mark 2
+    h.U = 0                             # five blocks, four free: 4 units
+    equal(machine.allocate(h, 2, 0), (0, 3, 4), "sweep 2, begin, mark 2, turn")
+    equal((h.phase, h.position, h.cycle, h.mark), (2, 2, 2, 3), "in the second sweep")
+    equal(h.colours[:2], [BLACK, BLACK], "3 is black, since it is not below the position")
+    equal(machine.work(h, 1), (0, 0, 1), "sweep 2")
+    equal((h.phase, h.position), (2, 3), "the sweep goes on to 3")
+    equal(machine.work(h, 1), (0, 0, 1), "sweep 3")
+    equal((h.phase, h.colours[:2], h.mark), (0, [WHITE, WHITE], 3), "the cycle took 5 units: 2 + 1 + 2")
+    equal(machine.audit(h), (0, 1, 0), "well-formed")
+
+    h = formatted(3, 2)
+    equal(machine.allocate(h, 0, 0), (0, 2, 2), "a cycle of 2 units, then the take")
+    equal((h.phase, h.cycle, h.mark, h.colours[0]), (0, 1, 2, WHITE), "idle: H is 0 at the last unit, 1 now")
+    equal(counted_units(h), 2 + 1 + 1, "the next cycle visits it")
+    equal(machine.audit(h), (0, 1, 0), "well-formed")
+
+    h = formatted(3, 1)
+    for held in (0, 2, 3):
+        machine.allocate(h, held, 0)
+    machine.set_root(h, 0)
+    machine.work(h, 20)
+    equal((h.free_count, h.mark), (3, 4), "all were handed out and freed")
+    first = h.free_head
+    equal(machine.allocate(h, 0, 0)[1], first, "the first free block")
+    equal(h.mark, 4, "the mark stays")
+    return "as worked out"
 
 
 LISTING_IN = b"F 3 1\nA 0 0\nA 2 0\nW 3\nR 2 0\nS 2 0 0\nW 4\nR 3 0\nC\n"
@@ -110,11 +233,11 @@ def rules_of_lines():
     equal(lines.heaprun(b""), b"", "no input")
     equal(lines.heaprun(b"\n\n"), b"99 0 0\n" * 2, "two empty lines")
     equal(lines.heaprun(b"F 0000001024 0000065535\nW 4294967295"), b"0 0 0\n9 0 0\n", "zeros")
-    equal(probe.heapprobe(b"C 0 0 0 0 0 0 0 0 0 0 0 0 0 0 0"), b"0 0 0" + b" 0" * 9 + b"\n",
-          "a case of no lengths")
-    for line in (b"C 1 0 0 0 0 0 0 0 0 0 0 0 0 0 0", b"C 0 0 0 0 0 1 0 0 0 0 0 0 0 0 0 256",
-                 b"C 0 0 0 1 0 0 0 0 0 0 0 0 0 0 0", b"C 0 0 0 0 0 0 0 0 0 0 0 0 0 0 0 0",
-                 b"C 0 0 0 0 9 0 0 0 0 0 0 0 0 0 0" + b" 0" * 9):
+    ten = b" 0" * 10
+    equal(probe.heapprobe(b"C 0 0 0 0 0 0" + ten), b"0 0 0" + ten + b"\n", "a case of no lengths")
+    for line in (b"C 1 0 0 0 0 0" + ten, b"C 0 0 0 0 0 1" + ten + b" 256", b"C 0 0 0 1 0 0" + ten,
+                 b"C 0 0 0 0 0 0" + ten + b" 0", b"C 0 0 0 0 0 0" + ten[2:],
+                 b"C 0 0 0 0 9 0" + ten + b" 0" * 9):
         equal(probe.heapprobe(line), b"99 0 0\n", f"the case {line}")
     return f"{len(draw.BAD_LINES)} lines that break the rules"
 
@@ -153,9 +276,11 @@ def watch_cycle(before, h, log):
     if before.phase == facts.MARKING and before.grey_head != 1:
         log["marked"] += 1
     log["freed"] |= facts.allocated(before) - facts.allocated(h)
-    if before.phase == facts.SWEEPING and h.phase == facts.IDLE:
-        need(log["units"] == 2 + log["marked"] + h.M, "a cycle isn't 2 + marked + M units", h)
-        need(log["units"] <= log["A"] + h.M + 2, "a cycle is above A + M + 2 units", h)
+    if before.phase != facts.IDLE and h.phase == facts.IDLE:
+        H = len(facts.at_or_below_the_mark(h))
+        need(log["units"] == 2 + log["marked"] + H, "a cycle isn't 2 + marked + H units", h)
+        need(log["units"] <= log["A"] + H + 2, "a cycle is above A + H + 2 units", h)
+        log["skipped"] = log.get("skipped", 0) + (before.phase == facts.MARKING)
         if log["tame"]:
             need(log["garbage"] <= log["freed"],
                  f"garbage {log['garbage']} at the start, but only {log['freed']} freed", h)
@@ -184,6 +309,8 @@ def watched_call(h, letter, numbers, log):
     if letter == "A" and not no:
         need(value in facts.blocks(watched) and value not in facts.allocated(watched),
              f"the new block was not free: {what}", watched, h)
+    taken = value if letter == "A" and not no else 1
+    need(h.mark == max(before.mark, taken), f"the mark: {what}", before, h)
     written = numbers[0] if letter in "NSA" and not no else None
     for b in held:
         need(h.colours[b - 2] != FREE, f"reachable block {b} freed by {what}", before, h)
@@ -200,6 +327,19 @@ def only_that_word(before, h, block, word, what):
                            and machine.is_reference(before, block, w)
                            == machine.is_reference(h, block, w)),
              f"word {w} of {block} changed by {what}", before, h)
+
+
+def bound_on_the_way(h, log):
+    """In the midst of a cycle: its units so far, and those it takes yet if nothing
+    more is handed out, are at most A + E + 2, E being what its sweep visits then."""
+    if h.phase == facts.IDLE or not log:
+        return
+    alone, left = machine.copy(h), 0
+    while alone.phase != facts.IDLE:
+        need(machine.unit(alone), "a unit meets damage", h)
+        left += 1
+    E = len(facts.at_or_below_the_mark(h))
+    need(log["units"] + left <= log["A"] + E + 2, f"{log['units']} units and {left} more", h)
 
 
 # -------------------------------------------------- well-formed heaps, demand 2
@@ -224,7 +364,7 @@ def drawn_heaps():
 def long_runs():
     """Heaps reached by calls: safety at every unit, cycles, garbage."""
     rng = random.Random(12)
-    calls, ended, collected, seen = 0, 0, 0, set()
+    calls, ended, collected, skipped, seen = 0, 0, 0, 0, set()
     for run in range(160):
         M = draw.between(rng, 1, 9)
         U = draw.one_of(rng, [0, 1, 1, 2, 3, 2 * M + 2])
@@ -233,14 +373,17 @@ def long_runs():
         for _ in range(120):
             letter, numbers = draw.call(rng, h, tame)
             no, _, _ = watched_call(h, letter, numbers, log)
+            bound_on_the_way(h, log)
             seen.add((letter, no))
             calls += 1
         ended += log.get("ended", 0)
         collected += log.get("collected", 0)
+        skipped += log.get("skipped", 0)
     for wanted in ("R0 R3 R5 N0 N3 N5 S0 S3 S4 S5 S6 T0 T4 T6 A0 A3 A5 A7 W0 W9 C0").split():
         need((wanted[0], int(wanted[1:])) in seen, f"no {wanted} among the runs")
     need(collected > 500, f"only {collected} garbage blocks were looked for")
-    return f"{calls} calls, {ended} tame cycles, {collected} garbage blocks freed"
+    need(skipped > 50, f"only {skipped} cycles had nothing to sweep")
+    return f"{calls} calls, {ended} tame cycles, {collected} garbage blocks freed, {skipped} without a sweep"
 
 
 # ------------------------------------------------------------------ demand 3
@@ -465,7 +608,8 @@ def damaged_heaps():
 
 # ------------------------------------------------------------------ all of it
 
-TESTS = [hand_checked_cases, the_listing, rules_of_lines, cases_by_hand, exports_by_hand,
+TESTS = [hand_checked_cases, what_cases_5_to_8_showed, small_reports, cycles_without_a_sweep,
+         takes_and_the_mark, the_listing, rules_of_lines, cases_by_hand, exports_by_hand,
          states_by_hand, states_and_facts, damaged_heaps, drawn_heaps, long_runs, room_enough,
          room_enough_exhaustive]
 

@@ -27,13 +27,15 @@ def words_7(h):
 
 
 def rows_of_20_fields():
-    """Six blocks at pace 1. Three units: a cycle begins, the turn, block 2 is
-    swept, so the position is 3: of 2, 3, 4 the first is white and two are black.
-    Two more sweep 3 and 4; 5 and 6 are then black. Then one block is free."""
+    """Six blocks at pace 1. Three units: a cycle begins, the turn ends it, since
+    nothing was handed out; the next begins. So 2, 3, 4 are black, and the mark is 4.
+    Two more turn and sweep 2; 5 and 6 are then black. Then one block is free, and
+    two more sweep 3 and 4: the sweep goes on to 6, the mark by now."""
     h = formatted(6, 1)
     equal(chains.allocate_chain(h, 0, 0, 3), (0, 2, 3), "a chain of three")
-    equal((h.root, h.free_head, h.free_count, h.phase, h.position), (2, 5, 3, 2, 3), "registers")
-    equal(h.colours, [WHITE, BLACK, BLACK, FREE, FREE, FREE], "colours by each block's number")
+    equal((h.root, h.free_head, h.free_count, h.phase, h.position), (2, 5, 3, 1, 0), "registers")
+    equal((h.cycle, h.mark), (2, 4), "cycle and mark")
+    equal(h.colours, [BLACK, BLACK, BLACK, FREE, FREE, FREE], "colours")
     equal(h.words[0::8], [0, 0, 0, 6, 7, 0], "words 0")
     equal(words_7(h), [3, 4, 0, 0, 0, 0], "words 7")
     equal(h.bytes, [128, 128, 128, 0, 0, 0], "bits 7")
@@ -44,28 +46,30 @@ def rows_of_20_fields():
     equal(chains.store_field_reference(h, 2, 7, 4), (0, 0, 0), "a reference in field 7")
     equal((machine.read(h, 3, 0), h.bytes[1]), ((0, 4, 0, True), 129), "it is word 0 of block 3")
     equal(chains.allocate_chain(h, 3, 1, 2), (0, 5, 2), "a chain held by field 8")
-    equal((h.colours[3:5], words_7(h)[3:5]), ([BLACK, BLACK], [6, 0]), "its blocks")
+    equal((h.colours[:5], words_7(h)[3:5]), ([WHITE] + [BLACK] * 4, [6, 0]), "its blocks")
+    equal((h.phase, h.position, h.mark), (2, 3, 6), "position and mark")
     equal(h.bytes[1], 131, "the bits of its holder")
     equal(chains.read_field(h, 2, 8), (0, 5, 0, True), "field 8")
     before = machine.copy(h)
     equal(chains.allocate_chain(h, 2, 0, 2), (7, 0, 2), "one block is free")
     machine.work(before, 2)
     need(before == h, "a refused chain leaves more than its units", before, h)
+    equal((h.phase, h.position, h.mark), (2, 5, 6), "the sweep goes on")
     equal(machine.audit(h), (0, 1, 0), "well-formed")
     return "as worked out"
 
 
 def marking_and_pace_0():
-    """Six blocks at pace 0. Six free: 2 units a block, six for three: a cycle
-    begins, the turn, 2 to 5 are swept; 2, 3, 4 lie below position 6, so they
-    are white. Three free: 4 units a block, eight for two: 6 and 7 are swept, a
-    cycle begins, 2, 3, 4 are marked, the turn, 2 is swept; 5 and 6 are black."""
+    """Six blocks at pace 0. Six free: 2 units a block, six for three: three cycles
+    that have nothing to sweep; 2, 3, 4 are taken while idle, so they are white.
+    Three free: 4 units a block, eight for two: a cycle begins, 2, 3, 4 are marked,
+    the turn, 2, 3, 4 are swept, which ends it; 5 and 6 are white too."""
     h = formatted(6, 0)
     equal(chains.allocate_chain(h, 0, 0, 3), (0, 2, 6), "six free")
-    equal((h.position, h.colours[:3]), (6, [WHITE] * 3), "below the position")
+    equal((h.phase, h.cycle, h.mark, h.colours[:3]), (0, 3, 4, [WHITE] * 3), "idle")
     equal(chains.allocate_chain(h, 4, 0, 2), (0, 5, 8), "three free")
-    equal((h.phase, h.position, h.cycle), (2, 3, 2), "registers")
-    equal(h.colours, [WHITE, BLACK, BLACK, BLACK, BLACK, FREE], "colours")
+    equal((h.phase, h.position, h.cycle, h.mark), (0, 0, 4, 6), "registers")
+    equal(h.colours, [WHITE] * 5 + [FREE], "colours")
     h = chain_cases.marking()
     equal(chains.store_field_reference(h, 2, 1, 4), (0, 0, 0), "a white target")
     equal((h.colours[:3], h.grey_head), ([BLACK, 1, 3], 4), "it is greyed first")
@@ -149,6 +153,7 @@ def watched_chain(h, block, word, n, log):
     new = facts.allocated(h) - facts.allocated(watched)
     need(new == set(taken), f"other blocks: {what}", before, h)
     need(h.free_count == watched.free_count - n, f"the count: {what}", before, h)
+    need(h.mark == max(before.mark, *taken), f"the mark: {what}", before, h)
     for k in range(7 * n + 2):
         wanted = (0, 0, 0, False) if k < 7 * n else (3, 0, 0, False)
         equal(chains.read_field(h, value, k), wanted, f"a fresh field {k}: {what}")
@@ -288,7 +293,7 @@ def no_better_rule():
         K = M - 2 - (B - 1)
         full = any(0 in greedy_session(seed, M, K, B)[0] for seed in range(60))
         need(full, f"M {M}, B {B}: a block is always free")
-        refused = any(7 in greedy_session(seed, M, K + 1, B)[1] for seed in range(60))
+        refused = any(7 in greedy_session(seed, M, K + 1, B)[1] for seed in range(120))
         need(refused, f"M {M}, B {B}: never refused with K + 1")
     return "M of 8, 10 and 12"
 

@@ -17,6 +17,9 @@ import machine
 from check import equal, need
 
 
+OTHER_COUNTS = (0, 1, 8, 11, 255)
+
+
 def loads(image, M):
     """What Load answers and leaves, in memory of M blocks; and that a refusal
     leaves it as it was."""
@@ -32,13 +35,48 @@ def loads(image, M):
 def images_by_hand():
     for h, image in images.by_hand():
         before, length = machine.copy(h), len(image)
-        equal(length, 52 + 37 * h.M, "the length of an image")
+        equal(length, 56 + 37 * h.M, "the length of an image")
         out = [7] * (length + 3)
         equal(images.save(h, out), (0, 0, 0), "Save")
         equal(out, image + [7, 7, 7], f"the image of {h}")
         need(h == before, "Save changes the heap", before, h)
         equal(loads(image, h.M), (0, h), "Load of the dump")
     return f"{len(images.by_hand())} dumps"
+
+
+def earlier_images_by_hand():
+    """An image of nine registers is four bytes shorter. It loads with the mark at
+    M + 1, and is written with ten."""
+    for h, image in images.earlier_by_hand():
+        equal(len(image), 52 + 37 * h.M, "the length of an earlier image")
+        equal(h.mark, h.M + 1, "the mark")
+        need(facts.well_formed(h), "not well-formed", h)
+        equal(loads(image, h.M), (0, h), "Load of the dump")
+        equal(images.encode_earlier(h), image, "as an earlier release wrote it")
+        out = [0] * (56 + 37 * h.M)
+        equal(images.save(h, out), (0, 0, 0), "Save")
+        equal((out[0], out[40:44], out[44:]), (10, images.four(h.M + 1), image[40:]), "written with ten")
+        *short, whole, longer = draw_images.cuts(image)
+        for cut in short + [longer]:
+            equal(loads(cut, h.M)[0], 10, f"an earlier image cut to {len(cut)} bytes")
+    return f"{len(images.earlier_by_hand())} dumps"
+
+
+def earlier_images():
+    """Any heap reached by calls: what an earlier release wrote of it gives the same
+    heap, but for the mark. Other counts of registers are refused."""
+    rng, lower = random.Random(34), 0
+    for _ in range(500):
+        h = draw.reached_heaps(rng, 1)[0]
+        lower += h.mark < h.M + 1
+        image = images.encode_earlier(h)
+        found = machine.copy(h)
+        found.mark = h.M + 1
+        equal(loads(image, h.M), (0, found), "Load of an earlier image")
+        for count in OTHER_COUNTS:
+            equal(loads(images.encode_with(h, count), h.M)[0], 10, f"{count} registers")
+    need(lower > 100, f"only {lower} had a lower mark")
+    return "500 heaps"
 
 
 def the_documented_dump():
@@ -60,12 +98,13 @@ def load_of_save():
     for _ in range(1500):
         h = draw.reached_heaps(rng, 1)[0]
         before = machine.copy(h)
-        out = [draw.below(rng, 256) for _ in range(52 + 37 * h.M + draw.below(rng, 4))]
-        rest = out[52 + 37 * h.M:]
+        length = images.length_of(h.M)
+        out = [draw.below(rng, 256) for _ in range(length + draw.below(rng, 4))]
+        rest = out[length:]
         equal(images.save(h, out), (0, 0, 0), f"Save of {h}")
         need(h == before, "Save changes the heap", before, h)
-        equal(out[52 + 37 * h.M:], rest, "the output past the image")
-        equal(loads(out[:52 + 37 * h.M], h.M), (0, h), "Load of what Save wrote")
+        equal(out[length:], rest, "the output past the image")
+        equal(loads(out[:length], h.M), (0, h), "Load of what Save wrote")
         if rest:
             equal(loads(out, h.M)[0], 10, "Load with something after the image")
         phases[h.phase] = phases.get(h.phase, 0) + 1
@@ -142,9 +181,9 @@ def largest_images():
 
 def drawn_cases():
     """Any heap and any bytes: Save refuses by 1, 10 and 13 exactly where facts.py
-    says so; Load answers 0 exactly on images that Save could have written; a refusal
-    writes nothing. Each answer is met."""
-    rng, met = random.Random(32), {}
+    says so; Load answers 0 exactly on images that Save could have written, now or in
+    an earlier release; a refusal writes nothing. Each answer is met."""
+    rng, met, earlier = random.Random(32), {}, 0
     for _ in range(6000):
         name, h, further = draw_images.case(rng)
         before, given = machine.copy(h), list(further)
@@ -154,18 +193,23 @@ def drawn_cases():
         if name == "save":
             need(h == before, "Save changes the heap", before, h)
             wanted = (1 if not facts.lengths_M_and_U_fit(h) else 10 if not facts.well_formed(h)
-                      else 13 if len(given) < 52 + 37 * h.M else 0)
+                      else 13 if len(given) < images.length_of(h.M) else 0)
             equal(refusal, wanted, f"Save of {h} to {len(given)} bytes")
         elif refusal != 10:
             found = images.decode(given)
             need(facts.well_formed(found), "an image of no well-formed heap", found)
-            equal(images.encode(found), given, "its image")
+            if given[0] == 9:
+                equal((images.encode_earlier(found), found.mark), (given, found.M + 1), "its image, and the mark")
+                earlier += 1
+            else:
+                equal(images.encode(found), given, "its image")
             equal(refusal == 0, images.lengths(found) == images.lengths(h), f"13 or 0 for {images.lengths(h)}")
             need(refusal != 0 or h == found, "Load gives another heap", h, found)
         met[name, refusal] = met.get((name, refusal), 0) + 1
     missing = [(name, no) for name, answers in draw_images.ANSWERS.items() for no in answers
                if (name, no) not in met]
     need(not missing, f"never answered: {missing}")
+    need(earlier > 100, f"only {earlier} earlier images")
     return ", ".join(f"{name} {no}: {count}" for (name, no), count in sorted(met.items()))
 
 
@@ -174,7 +218,7 @@ def sessions_go_on():
     rng, calls = random.Random(33), 0
     for _ in range(300):
         h = draw.reached_heaps(rng, 1)[0]
-        out = [0] * (52 + 37 * h.M)
+        out = [0] * images.length_of(h.M)
         images.save(h, out)
         spare = draw_images.other_heap(rng, h.M)
         equal(images.load(spare, out), (0, 0, 0), "Load")
@@ -188,7 +232,7 @@ def sessions_go_on():
     return f"{calls} calls"
 
 
-TESTS = [images_by_hand, the_documented_dump, load_of_save, cut_images, changed_images, other_lengths,
+TESTS = [images_by_hand, earlier_images_by_hand, earlier_images, the_documented_dump, load_of_save, cut_images, changed_images, other_lengths,
          largest_images, drawn_cases, sessions_go_on]
 
 if __name__ == "__main__":

@@ -1,5 +1,6 @@
 """Cases worked out by hand from document 01's table of refusals and the
-paragraph under it, one sentence at a time.
+paragraph under it, one sentence at a time; and from document 02's request L7,
+what it says of the mark.
 
 Each case is (sentence, letter, numbers, heap, the three numbers it must give).
 check.py runs them on the machine; vectors.py puts them among heapprobe's cases.
@@ -14,13 +15,14 @@ TOP = 4294967295
 
 
 def idle():
-    """Idle, pace 1: root 2 names 3, 3 names 4, all white; 5 is free."""
+    """Idle, pace 1: root 2 names 3, 3 names 4, all white; 5 is free. The mark is
+    4. Three units begin a cycle, turn and sweep 2; two more sweep 3 and 4."""
     h = machine.empty_heap(4)
     machine.format(h, 4, 1)
     machine.allocate(h, 0, 0)
     machine.allocate(h, 2, 0)
     machine.allocate(h, 3, 0)
-    machine.work(h, 3)
+    machine.work(h, 2)
     return h
 
 
@@ -52,6 +54,13 @@ def dooming():
     return h
 
 
+def all_free():
+    """As Format leaves it, at pace 1."""
+    h = machine.empty_heap(4)
+    machine.format(h, 4, 1)
+    return h
+
+
 def but(h, colour={}, word={}, byte={}, **registers):
     """The heap with some fields changed."""
     for block, value in colour.items():
@@ -67,7 +76,7 @@ def but(h, colour={}, word={}, byte={}, **registers):
 
 def lent(M, U, lw, lc, lb):
     """An idle heap's registers over buffers of the given lengths."""
-    return machine.heap([M, U, 0, 1, 0, 0, 0, 0, 7], [0] * lw, [0] * lc, [0] * lb)
+    return machine.heap([M, U, 0, 1, 0, 0, 0, 0, 7, 1], [0] * lw, [0] * lc, [0] * lb)
 
 
 CALLS = {"R": (2, 0), "N": (2, 0, 7), "S": (2, 0, 0), "T": (0,), "A": (0, 0), "W": (1,)}
@@ -88,7 +97,7 @@ def refused_1():
         h = but(lent(1, 1, lw, lc, lb), phase=9, cycle=9)
         yield "Format of what does not fit", "F", (M, U), h, (1, 0, 0)
     for M, U in [(1, 0), (1, 65535)]:
-        wild = machine.heap([TOP] * 9, [TOP] * 8, [TOP], [255])
+        wild = machine.heap([TOP] * 10, [TOP] * 8, [TOP], [255])
         yield "Format does not test registers", "F", (M, U), wild, (0, 0, 0)
 
 
@@ -104,6 +113,16 @@ def refused_2():
                   but(sweeping(), position=1), but(sweeping(), position=OUT),
                   but(idle(), position=2), but(marking(), position=2)]:
             yield "registers not legal", letter, numbers, h, (2, 0, 0)
+        for h in [but(make(), mark=mark) for make in (idle, marking, sweeping) for mark in (0, OUT, TOP)]:
+            yield "a mark outside 1 to M + 1", letter, numbers, h, (2, 0, 0)
+        for position, mark in ((5, 4), (3, 2), (2, 1), (4, 3)):
+            h = but(sweeping(), position=position, mark=mark)
+            yield "a position above the mark while sweeping", letter, numbers, h, (2, 0, 0)
+    for letter, numbers, answer in [("R", (2, 0), (0, 3, 1)), ("N", (2, 1, 7), (0, 0, 0)), ("T", (0,), (0, 0, 0)),
+                                    ("S", (2, 0, 0), (0, 0, 0)), ("A", (0, 0), (0, 5, 1)), ("W", (1,), (0, 0, 1))]:
+        for mark in (1, 2, 3, 4, 5):
+            yield "a mark from 1 to M + 1", letter, numbers, but(idle(), mark=mark), answer
+        yield "a position at the mark", letter, numbers, but(sweeping(), position=2, mark=2), answer
 
 
 def refused_3_4_9():
@@ -210,10 +229,45 @@ def refused_in_allocation():
     yield "pace 0, free count 0 counted as 1", "A", (2, 1), but(idle(), U=0, free_count=0), (8, 0, 8)
 
 
+def the_mark():
+    """Where a sweep ends. What stands above the mark is looked at by no unit, on a
+    damaged heap neither."""
+    yield "the sweep ends after the mark", "W", (3,), sweeping(), (0, 0, 3)
+    yield "after that a cycle begins", "W", (4,), sweeping(), (0, 0, 4)
+    yield "a mark of M + 1: the free block 5 too", "W", (4,), but(sweeping(), mark=5), (0, 0, 4)
+    for mark in (2, 3):
+        yield "the sweep ends after a lower mark", "W", (mark - 1,), but(sweeping(), mark=mark), (0, 0, mark - 1)
+        h = but(sweeping(), {4: OUT}, mark=mark)
+        yield "a colour above the mark is not met", "W", (mark - 1,), h, (0, 0, mark - 1)
+    yield "a colour at the mark is met", "W", (9,), but(sweeping(), {4: OUT}), (8, 0, 2)
+    for n in (1, 2):
+        yield "mark 1: the turn ends the cycle", "W", (n,), but(idle(), root=0, mark=1), (0, 0, n)
+    yield "mark 1: cycles of two units", "W", (65535,), but(idle(), root=0, mark=1), (0, 0, 65535)
+    yield "mark 1, grey blocks are marked first", "W", (3,), but(marking(), mark=1), (0, 0, 3)
+    yield "a root that no sweep made white", "W", (9,), but(marking(), mark=1), (8, 0, 3)
+    yield "a take while sweeping raises it", "A", (2, 1), sweeping(), (0, 5, 1)
+    yield "a take while marking raises it", "A", (2, 1), marking(), (0, 5, 1)
+    yield "a take while idle raises it", "A", (2, 1), but(sweeping(), U=3), (0, 5, 3)
+    yield "a take at the mark leaves it", "A", (2, 1), but(idle(), mark=5), (0, 5, 1)
+    h = but(garbage(), U=6)
+    yield "a take below the mark leaves it", "A", (2, 1), h, (0, 4, 6)
+    yield "7 leaves it", "A", (2, 1), but(idle(), free_head=0, free_count=0), (7, 0, 1)
+    yield "5 leaves it", "A", (5, 1), idle(), (5, 0, 1)
+
+
 def audited():
     for make in (idle, marking, sweeping, garbage, dooming):
         yield "a heap reached by calls", "C", (), make(), (0, 1, 0)
     yield "any cycle number", "C", (), but(idle(), cycle=TOP), (0, 1, 0)
+    for make in (idle, marking, sweeping, garbage, dooming):
+        yield "a mark above all that is allocated", "C", (), but(make(), mark=5), (0, 1, 0)
+        for mark in (0, 1, 2, 3, OUT, TOP):
+            yield "an allocated block above the mark", "C", (), but(make(), mark=mark), (0, 0, 0)
+    yield "the last block above the mark", "C", (), but(idle(), {5: WHITE}, free_head=0, free_count=0), (0, 0, 0)
+    h = but(idle(), {5: WHITE}, free_head=0, free_count=0, mark=5)
+    yield "the last block at the mark", "C", (), h, (0, 1, 0)
+    for mark in range(1, 6):
+        yield "a free heap, any mark", "C", (), but(all_free(), mark=mark), (0, 1, 0)
     yield "references of doomed blocks", "C", (), but(dooming(), word={(3, 0): TOP}), (0, 1, 0)
     yield "free blocks doomed ones name", "C", (), but(dooming(), word={(3, 0): 5}), (0, 1, 0)
     yield "black blocks doomed ones name", "C", (), but(dooming(), {4: BLACK}), (0, 1, 0)
@@ -241,5 +295,5 @@ def audited():
 
 def cases():
     for part in (refused_1, refused_2, refused_3_4_9, refused_block_and_target,
-                 refused_in_a_unit, refused_in_allocation, audited):
+                 refused_in_a_unit, refused_in_allocation, the_mark, audited):
         yield from part()

@@ -45,11 +45,12 @@ def small_heap(rng, most_blocks):
     colours = [small_colour(rng, M, phase) for _ in range(M)]
     bytes_ = [one_of(rng, [0, 1, 2, 3, 129, below(rng, 256)]) for _ in range(M)]
     words = [small_number(rng, M) if chance(rng, 0.3) else 0 for _ in range(8 * M)]
-    position = between(rng, 2, M + 1) if phase == 2 else 0
+    mark = small_mark(rng, colours)
+    position = between(rng, 2, max(mark, 2)) if phase == 2 else 0
     root = one_of(rng, [0, *range(2, M + 2)])
     U = one_of(rng, [0, 1, 1, 2, 3, 8])
     cycle = one_of(rng, [0, 1, TOP])
-    h = machine.heap([M, U, phase, 1, 0, below(rng, M + 1), position, root, cycle],
+    h = machine.heap([M, U, phase, 1, 0, below(rng, M + 1), position, root, cycle, mark],
                      words, colours, bytes_)
     if chance(rng, 0.8):
         link_free_blocks(rng, h)
@@ -64,6 +65,16 @@ def small_colour(rng, M, phase):
     if chance(rng, 0.05):
         return small_number(rng, M)
     return one_of(rng, [*usual, *usual, machine.FREE, machine.BLACK])
+
+
+def small_mark(rng, colours):
+    """The highest block that isn't free, or one above it; seldom any number, so
+    that an allocated block may lie above the mark, or the mark isn't legal."""
+    M = len(colours)
+    highest = max([1, *(b for b in range(2, M + 2) if colours[b - 2] != machine.FREE)])
+    if chance(rng, 0.1):
+        return small_number(rng, M)
+    return highest if chance(rng, 0.5) else between(rng, highest, M + 1)
 
 
 def shuffled(rng, numbers):
@@ -115,7 +126,7 @@ def allocated_block(rng, h):
 
 def block_ahead(rng, h):
     """While sweeping, a block that the sweep has yet to meet, doomed if one is."""
-    ahead = range(h.position, h.M + 2)
+    ahead = range(h.position, h.mark + 1)
     white = [b for b in ahead if machine.colour(h, b) == machine.WHITE]
     return one_of(rng, white or ahead)
 
@@ -289,9 +300,13 @@ def reached_heaps(rng, count):
 
 def damage(rng, h):
     """Changes one field: a register, a colour, a word, a byte or a length."""
-    kind = one_of(rng, ["register", "register", "colour", "colour", "colour",
+    kind = one_of(rng, ["register", "register", "mark", "colour", "colour", "colour",
                         "word", "word", "byte", "length"])
-    if kind == "register":
+    if kind == "mark":
+        # about the position, the ends of its range, or any
+        h.mark = one_of(rng, [0, 1, 2, h.position, max(h.position, 1) - 1, len(h.colours) + 1,
+                              len(h.colours) + 2, damaged_number(rng, h)])
+    elif kind == "register":
         setattr(h, one_of(rng, machine.REGISTERS), damaged_number(rng, h))
     elif kind == "colour" and h.colours:
         h.colours[below(rng, len(h.colours))] = one_of(
@@ -384,12 +399,15 @@ def bad_case(rng, h):
 
 
 def audit_case(rng):
-    """The audit of a reached heap with one colour, reference or link changed
-    to another that is legal in itself; about half of them stay well-formed."""
+    """The audit of a reached heap with one colour, reference, link, the position or
+    the mark changed to another that is legal in itself; about half of them stay
+    well-formed."""
     h = one_of(rng, reached_heaps(rng, 4))
     block = between(rng, 2, h.M + 1)
-    kind = below(rng, 4)
-    if kind == 0:
+    kind = below(rng, 5)
+    if kind == 4:
+        h.mark = between(rng, max(h.position, 1), h.M + 1)
+    elif kind == 0:
         machine.put_colour(h, block, one_of(rng, [0, TOP, TOP - 1, between(rng, 1, h.M + 1)]))
     elif kind == 1:
         word = one_of(rng, [0, 1, 2, 7])
@@ -398,7 +416,7 @@ def audit_case(rng):
     elif kind == 2:
         h.root = one_of(rng, [0, between(rng, 2, h.M + 1)])
     elif h.phase == machine.SWEEPING:
-        h.position = between(rng, 2, h.M + 1)
+        h.position = between(rng, 2, h.mark)
     return probe.line_of("C", [], h)
 
 

@@ -14,7 +14,16 @@ ANSWERS = {"save": (0, 1, 10, 13), "load": (0, 10, 13)}
 def other_heap(rng, M):
     """Lent memory of which nothing is known, with the lengths of M blocks."""
     numbers = lambda count, most: [draw.below(rng, most) for _ in range(count)]
-    return machine.heap(numbers(9, 9), numbers(8 * M, 1000), numbers(M, 1000), numbers(M, 256))
+    return machine.heap(numbers(len(machine.REGISTERS), 9), numbers(8 * M, 1000), numbers(M, 1000), numbers(M, 256))
+
+
+def counts_of(image):
+    """The places of an image's first bytes and of those behind its registers: its
+    counts, M, the position, and the mark where it has one."""
+    registers = 9 if image[0] == 9 else 10
+    M = (len(image) - 16 - 4 * registers) // 37
+    colours = 4 + 4 * registers
+    return [0, 4, 28, 40, colours, colours + 4 + 4 * M, colours + 8 + 5 * M]
 
 
 def spoiled(rng, image):
@@ -26,8 +35,7 @@ def spoiled(rng, image):
     elif kind == 1:
         image += [draw.below(rng, 256) for _ in range(draw.between(rng, 1, 5))]
     elif kind == 2:
-        M = (len(image) - 52) // 37
-        place = draw.one_of(rng, [0, 4, 40, 44 + 4 * M, 48 + 5 * M]) + draw.one_of(rng, [0, 0, 0, 1, 2, 3])
+        place = draw.one_of(rng, counts_of(image)) + draw.one_of(rng, [0, 0, 0, 1, 2, 3])
         image[place] = draw.one_of(rng, [image[place] ^ 1, (image[place] + 1) % 256, 0, 255])
     else:
         place = draw.below(rng, len(image))
@@ -41,19 +49,19 @@ def save_case(rng):
     h = draw.reached_heaps(rng, 1)[0]
     if draw.chance(rng, 0.35):
         draw.damage(rng, h)
-    length = 52 + 37 * len(h.colours) + draw.one_of(rng, [0, 0, 0, 1, 5, -1, -9])
+    length = images.length_of(len(h.colours)) + draw.one_of(rng, [0, 0, 0, 1, 5, -1, -9])
     if draw.chance(rng, 0.05):
         length = draw.below(rng, 60)
     return "save", h, [draw.below(rng, 256) for _ in range(max(length, 0))]
 
 
 def load_case(rng):
-    """The image of a heap reached by calls, spoiled or not, for memory of its
-    lengths as a rule; or bytes that nothing made."""
+    """The image of a heap reached by calls, at times one of nine registers, spoiled
+    or not, for memory of its lengths as a rule; or bytes that nothing made."""
     source = draw.reached_heaps(rng, 1)[0]
-    image = images.encode(source)
+    image = images.encode_earlier(source) if draw.chance(rng, 0.3) else images.encode(source)
     if draw.chance(rng, 0.1):
-        image = [draw.one_of(rng, [0, 0, 0, 1, 2, 9, 255]) for _ in range(draw.below(rng, 130))]
+        image = [draw.one_of(rng, [0, 0, 0, 1, 2, 9, 10, 255]) for _ in range(draw.below(rng, 130))]
     elif draw.chance(rng, 0.6):
         image = spoiled(rng, image)
     h = other_heap(rng, source.M)

@@ -32,7 +32,7 @@ def three():
         for k in {*range(FIELDS)} - {LINK}:
             chains.store_field_number(h, first, k, 100 * first + k)
         chains.store_field_reference(h, first, LINK, 0)
-    machine.work(h, 2)          # six units were done: two end the cycle
+    machine.work(h, 6)          # of the second cycle four were done, the turn last: six sweep all blocks
     return h
 
 
@@ -193,7 +193,7 @@ def no_reference():
 def entry():
     for h, no in [(lent(1, 1, 8, 1, 0), 1), (lent(1, 1, 7, 1, 1), 1), (lent(1, 65536, 8, 1, 1), 1),
                   (lent(16385, 1, 8, 1, 1), 1), (lent(TOP, 1, 8, 1, 1), 1), (but(three(), phase=3), 2),
-                  (but(three(), root=OUT), 2), (but(three(), position=2), 2)]:
+                  (but(three(), root=OUT), 2), (but(three(), position=2), 2), (but(three(), mark=OUT), 2)]:
         for start in (1, 2, TOP):
             yield export("lengths, M, U or registers", [], REFUSED, no, h=h, start=start)
         yield export("no room before that", [], NO_ROOM, h=h, room=13)

@@ -1,7 +1,8 @@
-"""What document 01 says a heap is: allocated, doomed, reachable, well-formed.
+"""What document 01 says a heap is: allocated, doomed, reachable, well-formed;
+and what document 02's request L7 says of the mark.
 
 Nothing here is taken from machine.py. Each function states a sentence of the
-paper; none of them changes the heap.
+papers; none of them changes the heap.
 """
 
 WHITE, BLACK, FREE = 0, 4294967295, 4294967294
@@ -11,6 +12,11 @@ IDLE, MARKING, SWEEPING = 0, 1, 2
 def blocks(h):
     """Block numbers run from 2 to M + 1."""
     return range(2, h.M + 2)
+
+
+def at_or_below_the_mark(h):
+    """Those that the sweep visits; a cycle's H is how many they are at its end."""
+    return range(2, h.mark + 1)
 
 
 def colour_of(h, b):
@@ -80,7 +86,8 @@ def registers_are_legal(h):
             and h.grey_head in ([1, *blocks(h)] if h.phase == MARKING else [1])
             and h.free_head in none_or_block and h.root in none_or_block
             and h.free_count in range(h.M + 1)
-            and h.position in (blocks(h) if h.phase == SWEEPING else [0]))
+            and h.mark in [1, *blocks(h)]
+            and h.position in (at_or_below_the_mark(h) if h.phase == SWEEPING else [0]))
 
 
 def colours_are_legal(h):
@@ -103,6 +110,10 @@ def free_blocks_are_laid_out(h):
     """A free block has reference byte 0, its words 1 to 7 are 0."""
     return all(h.bytes[b - 2] == 0 and words_of(h, b)[1:] == [0] * 7
                for b in blocks(h) if colour_of(h, b) == FREE)
+
+
+def blocks_above_the_mark_are_free(h):
+    return all(colour_of(h, b) == FREE for b in blocks(h) if b > h.mark)
 
 
 def nothing_is_grey_outside_marking(h):
@@ -147,6 +158,7 @@ RULES = [
     grey_list_ends_and_has_exactly_the_grey_blocks,
     free_list_ends_and_has_exactly_the_free_blocks,
     free_blocks_are_laid_out,
+    blocks_above_the_mark_are_free,
     nothing_is_grey_outside_marking,
     no_block_is_black_when_idle,
     no_block_below_the_position_is_black_while_sweeping,

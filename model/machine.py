@@ -1,6 +1,7 @@
-"""The block machine of document 01: the heap, one unit of work, the calls.
+"""The block machine of document 01: the heap, one unit of work, the calls; with
+the mark of document 02's request L7.
 
-A heap has nine registers and three lent buffers (words, colours, bytes).
+A heap has ten registers and three lent buffers (words, colours, bytes).
 All numbers are unsigned and fit 32 bits; the buffers may have any length.
 Every call answers (refusal number or 0, value, units done); Read adds whether
 the word is a reference, and Look answers a part of the word buffer.
@@ -21,19 +22,24 @@ IDLE, MARKING, SWEEPING = 0, 1, 2
 GREY_END = 1
 NO_BLOCK = 0
 
+# "the highest block number handed out since format (the mark; 1 when none)".
+# The mark is a register; marking is a phase. They have nothing to do with each
+# other.
+NONE_HANDED_OUT = 1
+
 REGISTERS = ("M", "U", "phase", "grey_head", "free_head", "free_count",
-             "position", "root", "cycle")
+             "position", "root", "cycle", "mark")
 
 
 def heap(registers, words, colours, bytes_):
-    """A heap of nine registers, in the order of REGISTERS, and three lists."""
+    """A heap of ten registers, in the order of REGISTERS, and three lists."""
     return SimpleNamespace(**dict(zip(REGISTERS, registers)),
                            words=words, colours=colours, bytes=bytes_)
 
 
 def empty_heap(M):
     """Buffers that fit M, and registers of which nothing is known."""
-    return heap([0] * 9, [0] * (8 * M), [0] * M, [0] * M)
+    return heap([0] * len(REGISTERS), [0] * (8 * M), [0] * M, [0] * M)
 
 
 def registers(h):
@@ -102,6 +108,8 @@ def fits(h, M, U):
 
 
 def registers_legal(h):
+    """As document 01 says; and "2 also covers a mark outside 1 to M + 1, and a
+    position above the mark while sweeping"."""
     none_or_block = lambda number: number == NO_BLOCK or is_block(h, number)
     return (h.phase <= 2
             and (h.grey_head == GREY_END
@@ -109,7 +117,8 @@ def registers_legal(h):
             and none_or_block(h.free_head)
             and none_or_block(h.root)
             and h.free_count <= h.M
-            and (is_block(h, h.position) if h.phase == SWEEPING else h.position == 0))
+            and 1 <= h.mark <= h.M + 1
+            and (2 <= h.position <= h.mark if h.phase == SWEEPING else h.position == 0))
 
 
 # ------------------------------------------------- one unit of collector work
@@ -120,7 +129,7 @@ def unit(h):
     if h.phase == IDLE:
         return start_cycle(h)
     if h.phase == MARKING and h.grey_head != GREY_END:
-        return mark(h, h.grey_head)
+        return mark_block(h, h.grey_head)
     if h.phase == MARKING:
         return start_sweep(h)
     return sweep(h, h.position)
@@ -143,7 +152,7 @@ def start_cycle(h):
     return True
 
 
-def mark(h, block):
+def mark_block(h, block):
     """Take the first grey block, make it black, grey the white ones it names."""
     next_grey = colour(h, block)
     if not is_grey(h, next_grey):
@@ -161,14 +170,19 @@ def mark(h, block):
 
 
 def start_sweep(h):
-    """Marking, grey list empty: phase 2, position 2."""
-    h.phase = SWEEPING
-    h.position = 2
+    """Marking, grey list empty: phase 2, position 2. "The sweep ends after that
+    block, and straight away at the turn when there is none."."""
+    if h.mark == NONE_HANDED_OUT:
+        h.phase = IDLE
+    else:
+        h.phase = SWEEPING
+        h.position = 2
     return True
 
 
 def sweep(h, block):
-    """White is freed, black becomes white, free stays; position plus one."""
+    """White is freed, black becomes white, free stays; position plus one, and
+    after the mark phase 0 and position 0."""
     found = colour(h, block)
     if found not in (WHITE, BLACK, FREE):
         return False            # a grey or illegal colour under the sweep
@@ -179,7 +193,7 @@ def sweep(h, block):
     if found == BLACK:
         put_colour(h, block, WHITE)
     h.position += 1
-    if h.position > h.M + 1:
+    if h.position > h.mark:
         h.phase = IDLE
         h.position = 0
     return True
@@ -274,7 +288,7 @@ def format(h, M, U):
         return 1, 0, 0
     h.M, h.U = M, U
     h.phase, h.grey_head, h.free_head, h.free_count = IDLE, GREY_END, 2, M
-    h.position, h.root, h.cycle = 0, NO_BLOCK, 0
+    h.position, h.root, h.cycle, h.mark = 0, NO_BLOCK, 0, NONE_HANDED_OUT
     for block in range(2, M + 2):
         for w in range(1, 8):
             put_word(h, block, w, 0)
@@ -360,6 +374,14 @@ def colour_of_new(h, block):
     return WHITE
 
 
+def hand_out(h, block):
+    """What becomes of a block that is taken, in every call that takes one: its
+    word 0 and its colour are written, and the mark is raised where it is lower."""
+    put_word(h, block, 0, 0)
+    put_colour(h, block, colour_of_new(h, block))
+    h.mark = max(h.mark, block)
+
+
 def allocate(h, block, word):
     """Does its units, takes the first free block, zeroes word 0, stores the
     reference. After 1 to 4 come the units, then 8 and 5 for the block, then 8
@@ -377,8 +399,7 @@ def allocate(h, block, word):
     new = h.free_head
     h.free_head = get_word(h, new, 0)
     h.free_count -= 1
-    put_word(h, new, 0, 0)
-    put_colour(h, new, colour_of_new(h, new))
+    hand_out(h, new)
     if block == NO_BLOCK:
         h.root = new
     else:
@@ -411,6 +432,7 @@ def accepts(h):
     blocks = range(2, h.M + 2)
     return (all(is_legal_colour(h, colour(h, b)) for b in blocks)
             and walks_grey_list(h) and walks_free_list(h)
+            and all(colour(h, b) == FREE for b in blocks if b > h.mark)
             and all(colour_suits_phase(h, b) for b in blocks)
             and root_suits(h)
             and all(references_suit(h, b) for b in blocks))

@@ -3,7 +3,7 @@ call on a heap written out in full, so that damaged heaps can be tried.
 
 A case is a line
 
-  LETTER x y z lw lc lb M U phase grey free count position root cycle
+  LETTER x y z lw lc lb M U phase grey free count position root cycle mark
          <lw words> <lc colours> <lb bytes>
 
 with single spaces between. Its numbers are those of `heaprun`: 1 to 10 digits,
@@ -33,10 +33,10 @@ def case_of(line):
         return None
     letter, *parts = line.split(b" ")
     numbers = [number(part) for part in parts]
-    if letter not in NUMBERS_OF or None in numbers or len(numbers) < 15:
+    if letter not in NUMBERS_OF or None in numbers or len(numbers) < 16:
         return None
-    xyz, (lw, lc, lb), registers = numbers[:3], numbers[3:6], numbers[6:15]
-    buffers = numbers[15:]
+    xyz, (lw, lc, lb), registers = numbers[:3], numbers[3:6], numbers[6:16]
+    buffers = numbers[16:]
     if lw > 64 or lc > 8 or lb > 8 or len(buffers) != lw + lc + lb:
         return None
     words, colours, bytes_ = buffers[:lw], buffers[lw:lw + lc], buffers[lw + lc:]

@@ -5,7 +5,7 @@ It is told of any number: a number that is no block is outside the layout.
 """
 
 import machine
-from damage import OUT, TOP, but, dooming, garbage, idle, lent, marking, sweeping
+from damage import OUT, TOP, all_free, but, dooming, garbage, idle, lent, marking, sweeping
 from machine import BLACK, FREE, WHITE
 
 # "value 1 live white, 2 doomed, 3 grey, 4 black, 5 free, 6 outside"
@@ -45,7 +45,7 @@ def told(what, h, *states):
 
 def phases():
     """Each state in each phase."""
-    yield from told("fresh", fresh(), IS_FREE, IS_FREE, IS_FREE, IS_FREE)
+    yield from told("fresh", all_free(), IS_FREE, IS_FREE, IS_FREE, IS_FREE)
     yield from told("idle", idle(), LIVE_WHITE, LIVE_WHITE, LIVE_WHITE, IS_FREE)
     yield from told("idle, garbage", garbage(), LIVE_WHITE, LIVE_WHITE, LIVE_WHITE, IS_FREE)
     yield from told("marking", marking(), IS_BLACK, IS_GREY, LIVE_WHITE, IS_FREE)
@@ -55,28 +55,25 @@ def phases():
                     IS_GREY, IS_GREY, LIVE_WHITE, IS_FREE)
 
 
-def fresh():
-    h = machine.empty_heap(4)
-    machine.format(h, 4, 1)
-    return h
-
-
 def positions():
     """All white: doomed from the position on, itself included."""
     for position in range(2, 6):
-        h = but(idle(), {b: WHITE for b in range(2, 6)}, phase=2, position=position)
+        h = but(idle(), {b: WHITE for b in range(2, 6)}, phase=2, position=position, mark=5)
         yield from told(f"position {position}", h,
                         *(LIVE_WHITE if b < position else DOOMED for b in range(2, 6)))
     swept = dooming()
     machine.work(swept, 2)
     yield from told("two blocks swept", swept, LIVE_WHITE, IS_FREE, DOOMED, IS_FREE)
-    machine.work(swept, 2)
+    machine.work(swept, 1)
     yield from told("all swept", swept, LIVE_WHITE, IS_FREE, IS_FREE, IS_FREE)
+    for mark in (4, 5):
+        h = but(dooming(), {5: WHITE}, position=3, mark=mark)
+        yield from told("the mark is not asked", h, IS_BLACK, DOOMED, DOOMED, DOOMED)
 
 
 def no_blocks():
     """A number that is no block is outside the layout, in every phase."""
-    for h in (fresh(), idle(), marking(), dooming()):
+    for h in (all_free(), idle(), marking(), dooming()):
         for number in (0, 1, OUT, 16384, 16385, 16386, 2**29 + 2, 2**31, TOP - 1, TOP):
             yield f"the number {number} in phase {h.phase}", h, number, (0, OUTSIDE, 0)
     one = machine.empty_heap(1)
@@ -113,9 +110,10 @@ def refused():
         yield "a length before a register", but(lent(4, 1, 32, 4, 5), phase=3), number, (1, 0, 0)
         for wrong in (dict(phase=3), dict(grey_head=2), dict(grey_head=0), dict(free_head=OUT),
                       dict(free_head=1), dict(free_count=5), dict(position=2), dict(root=1),
-                      dict(root=OUT)):
+                      dict(root=OUT), dict(mark=0), dict(mark=OUT)):
             yield f"{wrong}", but(idle(), **wrong), number, (2, 0, 0)
-        for wrong in (dict(position=0), dict(position=1), dict(position=OUT), dict(grey_head=2)):
+        for wrong in (dict(position=0), dict(position=1), dict(position=OUT), dict(grey_head=2),
+                      dict(position=5), dict(mark=1), dict(mark=TOP)):
             yield f"sweeping, {wrong}", but(dooming(), **wrong), number, (2, 0, 0)
         yield "marking, grey head 6", but(marking(), grey_head=OUT), number, (2, 0, 0)
     yield "a register before a colour word", but(idle(), {2: OUT}, phase=3), 2, (2, 0, 0)

@@ -116,11 +116,11 @@ def long_work():
 
 
 def long_lines():
-    """The longest case, 1,046 bytes, and lines about the bound of 1,200."""
+    """The longest case, 1,057 bytes, and lines about the bound of 1,200."""
     full = b"C" + b" 0000000000" * 3 + b" 0000000064 0000000008 0000000008"
-    full += b" 0000000008" + b" 0000000000" * 8 + b" 4294967295" * 72 + b" 0000000255" * 8
-    return [full, full + b" ", full + b"0", full + b" " * 154, full + b" " * 155,
-            b"C 0 0 0 0 0 0" + b" 0" * 9, b"C 0 0 0 0 0 0" + b" 0" * 600]
+    full += b" 0000000008" + b" 0000000000" * 9 + b" 4294967295" * 72 + b" 0000000255" * 8
+    return [full, full + b" ", full + b"0", full + b" " * 143, full + b" " * 144,
+            b"C 0 0 0 0 0 0" + b" 0" * 10, b"C 0 0 0 0 0 0" + b" 0" * 600]
 
 
 def heapprobe_lines():

@@ -37,8 +37,8 @@ def kept(clause, h, block, state):
 
 def graph(M, references, root=2, idle_free=()):
     """Idle: all blocks white but some, which are free in the order given. Each
-    (block, word) of `references` holds a reference."""
-    h = machine.heap([M, 1, 0, 1, 0, len(idle_free), 0, root, 3], [0] * 8 * M, [WHITE] * M, [0] * M)
+    (block, word) of `references` holds a reference. All were handed out."""
+    h = machine.heap([M, 1, 0, 1, 0, len(idle_free), 0, root, 3, M + 1], [0] * 8 * M, [WHITE] * M, [0] * M)
     for block, following in zip(idle_free, [*idle_free[1:], 0]):
         but(h, {block: FREE}, {(block, 0): following})
         h.free_head = h.free_head or block
@@ -221,11 +221,13 @@ def misfits():
 def unaccepted():
     """Heaps that fit and that the audit turns down: registers first."""
     for wrong in (dict(phase=3), dict(grey_head=2), dict(grey_head=0), dict(free_head=OUT), dict(free_head=1),
-                  dict(free_count=5), dict(position=2), dict(root=1), dict(root=OUT), dict(root=TOP)):
+                  dict(free_count=5), dict(position=2), dict(root=1), dict(root=OUT), dict(root=TOP),
+                  dict(mark=0), dict(mark=OUT)):
         yield f"{wrong}", lambda wrong=wrong: but(idle(), **wrong)
-    for wrong in (dict(position=0), dict(position=OUT), dict(grey_head=2)):
+    for wrong in (dict(position=0), dict(position=5), dict(position=OUT), dict(grey_head=2)):
         yield f"sweeping, {wrong}", lambda wrong=wrong: but(dooming(), **wrong)
     yield "a colour outside", lambda: but(idle(), {4: OUT})
+    yield "a block above the mark", lambda: but(idle(), mark=3)
     yield "grey while idle", lambda: but(idle(), {4: 1})
     yield "black while idle", lambda: but(idle(), {4: BLACK})
     yield "black behind the sweep", lambda: but(worked(sweeping(), 2), {2: BLACK})

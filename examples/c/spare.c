@@ -80,15 +80,16 @@ static void export_rows(const struct dergamoyne_heap *h)
 
 /* ---- the two processes ---- */
 
-/* The rows are the blocks 2, 3, 4. Their units: a cycle begins, the turn to the sweep, block 2 is swept. Seven more: the blocks 3 to
-   7 are swept, the second cycle begins with the root grey, and the root is marked. So block 3 is grey and block 4 still white. */
+/* The rows are the blocks 2, 3, 4. Their units: a cycle begins, the turn to the sweep, block 2 is swept. Four more: the blocks 3 and
+   4 are swept, the last ones that were handed out; the second cycle begins with the root grey, and the root is marked. So block 3 is
+   grey and block 4 still white. */
 static enum dergamoyne_refusal save(struct dergamoyne_heap *h, const char *name)
 {
     enum dergamoyne_refusal r = dergamoyne_heap_open(h, BLOCKS, PACE);
     if (r == DERGAMOYNE_DONE)
         r = add_rows(h, 0, 10, ROWS);
     if (r == DERGAMOYNE_DONE)
-        r = dergamoyne_heap_work(h, 7);
+        r = dergamoyne_heap_work(h, 4);
     if (r == DERGAMOYNE_DONE)
         r = dergamoyne_heap_save(h, image, sizeof image);
     if (r != DERGAMOYNE_DONE)
@@ -109,7 +110,7 @@ static void refuse(size_t length)
 }
 
 /* The new rows are the blocks 5 and 6, both black. Their units mark block 3, which greys block 4, and then block 4, whose row 5 is
-   black already. Of the seven units after that one turns to the sweep and six sweep the blocks 2 to 7: the cycle has ended. */
+   black already. Of the six units after that one turns to the sweep and five sweep the blocks 2 to 6: the cycle has ended. */
 static enum dergamoyne_refusal go_on(struct dergamoyne_heap *h)
 {
     uint32_t last = 0;
@@ -117,7 +118,7 @@ static enum dergamoyne_refusal go_on(struct dergamoyne_heap *h)
     if (r == DERGAMOYNE_DONE)
         r = add_rows(h, last, 10 * ROWS + 10, MORE);
     if (r == DERGAMOYNE_DONE)
-        r = dergamoyne_heap_work(h, 7);
+        r = dergamoyne_heap_work(h, 6);
     if (r == DERGAMOYNE_DONE) {
         show("gone on", h);
         export_rows(h);

@@ -65,14 +65,15 @@ static enum dergamoyne_refusal run(struct dergamoyne_heap *h)
         r = dergamoyne_heap_store_null(h, 2, FORGOTTEN);
     if (r == DERGAMOYNE_DONE)
         r = ask_all(h, "The forgotten word is null.", 3, 5);
-    /* Four units end the sweep; three begin a cycle, mark the root and turn to the sweep: position 2. */
+    /* Two units end the sweep, since block 5 is the last that was handed out; three begin a cycle, mark the root and turn to the
+       sweep: position 2. */
     if (r == DERGAMOYNE_DONE)
-        r = dergamoyne_heap_work(h, 4 + 3);
+        r = dergamoyne_heap_work(h, 2 + 3);
     if (r == DERGAMOYNE_DONE)
         r = ask_all(h, "The next cycle has marked what can be reached.", 3, 5);
-    /* And six sweep. */
+    /* And four sweep the blocks 2 to 5. */
     if (r == DERGAMOYNE_DONE)
-        r = dergamoyne_heap_work(h, BLOCKS);
+        r = dergamoyne_heap_work(h, 4);
     if (r == DERGAMOYNE_DONE)
         r = ask_all(h, "It has swept.", 2, 5);
     return r;

@@ -94,9 +94,10 @@ static void read_list(uint32_t *to, size_t length)
 
 /* ---- the lent memory ---- */
 
+/* NULL for a further buffer that the call at hand doesn't take. */
 static unsigned char *lent(const struct part *p)
 {
-    return p->memory + EDGE;
+    return p->memory == NULL ? NULL : p->memory + EDGE;
 }
 
 static void put(const struct part *p, size_t i, uint32_t v)
@@ -149,6 +150,7 @@ static void compare(struct part *p)
             differs(p->name, i, get(p, i), expected);
     }
     free(p->memory);
+    p->memory = NULL;
 }
 
 /* ---- a case ---- */

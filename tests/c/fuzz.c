@@ -4,7 +4,8 @@
        fuzz [--spoil] [--counts] SEED SECONDS
 
    A round has a heap of its own: fresh, running, or with damage done to both sides alike, sometimes of lengths that don't fit.
-   Now and then it is saved, a byte of its image is changed on both sides, and that is loaded; and Why is asked with something left
+   Now and then it is saved, a byte of its image is changed on both sides, and that is loaded, or the image is made one of an earlier
+   release; and Why is asked with something left
    behind in its buffers.
    Each buffer stands between two pages that can't be touched, by turns against the one behind it and against the one before
    it. The same seed gives the same calls. It prints how many calls it made, and `no difference`; or the seed, the call and what
@@ -36,10 +37,11 @@
 #include "perform.h"
 
 enum { CALLS = sizeof proved / sizeof *proved, PARTS = 8, MOST = 16384, REGISTERS = sizeof(struct dergamoyne_regs) / 4 };
+enum { PHASE = 2, POSITION = 6, MARK = 9, EARLIER_REGISTERS = 9 };
 enum { RECORD, WORDS, COLOURS, BYTES, OUT, IMAGE, QUEUE, CAME };
 static const char *const part_names[PARTS] = {"register", "words", "colours", "bytes", "out", "image", "queue", "came"};
 static const size_t widths[PARTS] = {4, 4, 4, 1, 4, 1, 4, 4};
-static const size_t most[PARTS] = {4 * REGISTERS, 32 * (MOST + 2), 4 * (MOST + 2), MOST + 2, 32 * (MOST + 2), 52 + 37 * (MOST + 2),
+static const size_t most[PARTS] = {4 * REGISTERS, 32 * (MOST + 2), 4 * (MOST + 2), MOST + 2, 32 * (MOST + 2), 56 + 37 * (MOST + 2),
                                    4 * (MOST + 8), 4 * (MOST + 8)};
 typedef char records_are_alike[sizeof(struct dergamoyne_regs) == sizeof(struct plain_regs) ? 1 : -1];
 
@@ -374,9 +376,10 @@ static void scatter(void)
             put(part, i, part == BYTES ? below(256) : any());
     put(RECORD, 0, (uint32_t)lengths[COLOURS]);
     put(RECORD, 1, below(6));
-    put(RECORD, 2, below(3));
+    put(RECORD, PHASE, below(3));
     put(RECORD, 3, 1);
-    put(RECORD, 6, regs()->phase == 2 ? 2 + below(blocks() + 1) : 0);
+    put(RECORD, MARK, one_in(8) ? any() : 2 + below(blocks() + 1));
+    put(RECORD, POSITION, regs()->phase == 2 ? 2 + below(one_in(8) ? blocks() + 1 : regs()->mark) : 0);
 }
 
 static size_t call_named(const char *name)
@@ -387,14 +390,17 @@ static size_t call_named(const char *name)
     return i;
 }
 
-/* The audit of a heap in which one colour or one reference is another that is legal in itself. It is put back afterwards, so
-   that the next audit, too, is of a heap that is nearly well-formed. */
+/* The audit of a heap in which one colour, one reference or the mark is another that is legal in itself. It is put back afterwards,
+   so that the next audit, too, is of a heap that is nearly well-formed. */
 static void audit_bent(void)
 {
     static const uint32_t colours[] = {0, 1, 4294967294u, 4294967295u};
     size_t b = below(blocks()), w = 8 * b + below(8);
     uint32_t colour = get(&sides[0], COLOURS, b), value = get(&sides[0], WORDS, w), byte = get(&sides[0], BYTES, b);
-    if (one_in(2)) {
+    uint32_t mark = regs()->mark;
+    if (one_in(4)) {
+        put(RECORD, MARK, 1 + below(blocks() + 1));
+    } else if (one_in(2)) {
         put(COLOURS, b, colours[below(4)]);
     } else {
         put(WORDS, w, 2 + below(blocks()));
@@ -402,6 +408,7 @@ static void audit_bent(void)
     }
     call = call_named("audit");
     do_call();
+    put(RECORD, MARK, mark);
     put(COLOURS, b, colour);
     put(WORDS, w, value);
     put(BYTES, b, byte);
@@ -423,6 +430,29 @@ static void load_bent(void)
     do_call();
 }
 
+/* Puts the buffers where they were, with their lengths. */
+static void put_back(void)
+{
+    for (size_t s = 0; s < 2; s++)
+        place(&sides[s], sides[s].lent[RECORD] != sides[s].start[RECORD]);
+}
+
+/* Save, then Load of the same image as an earlier release wrote it: nine registers, the mark left out. */
+static void load_earlier(void)
+{
+    size_t behind = 4 + 4 * EARLIER_REGISTERS;
+    call = call_named("save");
+    do_call();
+    for (size_t i = behind; i + 4 < lengths[IMAGE]; i++)
+        put(IMAGE, i, get(&sides[0], IMAGE, i + 4));
+    put(IMAGE, 0, EARLIER_REGISTERS);
+    for (size_t s = 0; s < 2; s++)
+        sides[s].heap.image_length -= 4;
+    call = call_named("load");
+    do_call();
+    put_back();
+}
+
 /* Load of what was saved, with a buffer that is lent one element short. */
 static void load_short(void)
 {
@@ -433,8 +463,7 @@ static void load_short(void)
                             : &sides[s].heap.bytes_length) -= 1;
     call = call_named("load");
     do_call();
-    for (size_t s = 0; s < 2; s++)
-        place(&sides[s], sides[s].lent[RECORD] != sides[s].start[RECORD]);
+    put_back();
 }
 
 /* Why of a block, with something left behind in the buffers that are lent for the path and for working. */
@@ -479,9 +508,9 @@ static void lay_out(uint32_t m)
     lengths[CAME] = m + (one_in(4) ? below(8) : 0);
     if (one_in(16))
         lengths[one_in(2) ? QUEUE : CAME] = one_in(2) ? m - 1 : below(m);
-    lengths[IMAGE] = 52 + 37 * (size_t)m;
+    lengths[IMAGE] = 56 + 37 * (size_t)m;
     if (one_in(8))
-        lengths[IMAGE] = one_in(2) ? below(52 + 37 * m) : lengths[IMAGE] + 1 - 2 * below(2);
+        lengths[IMAGE] = one_in(2) ? below(56 + 37 * m) : lengths[IMAGE] + 1 - 2 * below(2);
     if (one_in(64))
         lengths[part] = one_in(4) ? 0 : lengths[part] + 1 - 2 * below(2);
     for (size_t s = 0; s < 2; s++) {
@@ -506,6 +535,8 @@ static void play(void)
             audit_bent();
         if (!damaged && one_in(8) && lengths[IMAGE] != 0)
             load_bent();
+        if (!damaged && one_in(32) && lengths[IMAGE] >= 4)
+            load_earlier();
         if (!damaged && one_in(64) && blocks() != 0)
             load_short();
         if (!damaged && one_in(8))

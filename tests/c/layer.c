@@ -359,7 +359,7 @@ static void states(void)
     expect(dergamoyne_heap_new_root(&h, &root) == DERGAMOYNE_DONE, "a root");
     is(&h, root, DERGAMOYNE_STATE_BLACK, "a new block while marking");
     expect(dergamoyne_heap_new_block(&h, root, 0, &second) == DERGAMOYNE_DONE, "a block");
-    expect(dergamoyne_heap_work(&h, 3) == DERGAMOYNE_DONE, "the sweep");
+    expect(dergamoyne_heap_work(&h, 2) == DERGAMOYNE_DONE, "the sweep");
     is(&h, root, DERGAMOYNE_STATE_LIVE_WHITE, "a block that was swept");
     expect(dergamoyne_heap_work(&h, 1) == DERGAMOYNE_DONE, "the next cycle's start");
     is(&h, root, DERGAMOYNE_STATE_GREY, "the root then");
@@ -447,7 +447,7 @@ static void whys(void)
     expect(dergamoyne_heap_store_null(&h, root, 3) == DERGAMOYNE_DONE && dergamoyne_heap_store_null(&h, root, 5) == DERGAMOYNE_DONE,
            "let go");
     told(&h, third, DERGAMOYNE_WHY_KEPT, 0, DERGAMOYNE_STATE_BLACK, path, "why it is kept");
-    expect(dergamoyne_heap_work(&h, 3 + 3) == DERGAMOYNE_DONE, "the next cycle, up to its sweep");
+    expect(dergamoyne_heap_work(&h, 2 + 3) == DERGAMOYNE_DONE, "the next cycle, up to its sweep");
     told(&h, third, DERGAMOYNE_WHY_DOOMED, 0, DERGAMOYNE_STATE_DOOMED, path, "why it is doomed");
     h.regs.phase = 3;
     not_told(&h, 0, 0, DERGAMOYNE_NOT_WELL_FORMED, "why on a record that is not legal");
@@ -486,9 +486,9 @@ static void running(struct dergamoyne_heap *h)
     uint32_t root = 0, second = 0;
     expect(dergamoyne_heap_open(h, 3, 1) == DERGAMOYNE_DONE && dergamoyne_heap_new_root(h, &root) == DERGAMOYNE_DONE &&
                dergamoyne_heap_new_block(h, root, 0, &second) == DERGAMOYNE_DONE &&
-               dergamoyne_heap_store_number(h, second, 7, 42) == DERGAMOYNE_DONE && dergamoyne_heap_work(h, 5) == DERGAMOYNE_DONE,
+               dergamoyne_heap_store_number(h, second, 7, 42) == DERGAMOYNE_DONE && dergamoyne_heap_work(h, 4) == DERGAMOYNE_DONE,
            "a running heap");
-    expect(dergamoyne_heap_phase(h) == DERGAMOYNE_MARKING && h->regs.grey == second, "it is marking");
+    expect(dergamoyne_heap_phase(h) == DERGAMOYNE_MARKING && h->regs.grey == second && h->regs.mark == second, "it is marking");
 }
 
 static int same(const struct dergamoyne_heap *g, const struct dergamoyne_heap *h)
@@ -499,7 +499,7 @@ static int same(const struct dergamoyne_heap *g, const struct dergamoyne_heap *h
 
 static void images(void)
 {
-    enum { LENGTH = 52 + 37 * 3 };
+    enum { LENGTH = 56 + 37 * 3, EARLIER = LENGTH - 4 };
     static uint32_t words[24], colours[3];
     static uint8_t bytes[3];
     struct dergamoyne_heap h, spare, other;
@@ -509,7 +509,7 @@ static void images(void)
     expect(dergamoyne_heap_image_bytes(&h) == LENGTH && DERGAMOYNE_IMAGE_BYTES(3) == LENGTH, "the length of an image");
     expect(dergamoyne_heap_save(&h, image, LENGTH - 1) == DERGAMOYNE_OTHER_LENGTH && image[0] == 7, "too short an output");
     expect(dergamoyne_heap_save(&h, image, sizeof image) == DERGAMOYNE_DONE, "save");
-    expect(image[0] == 9 && image[4] == 3 && image[LENGTH] == 7 && image[LENGTH + 1] == 7, "the image and what is past it");
+    expect(image[0] == 10 && image[4] == 3 && image[40] == 3 && image[LENGTH] == 7 && image[LENGTH + 1] == 7, "the image and what is past it");
     expect(dergamoyne_heap_open_image(&spare, image, LENGTH) == DERGAMOYNE_DONE && same(&spare, &h), "open");
     expect(dergamoyne_heap_check(&spare) == DERGAMOYNE_DONE, "what was opened is well-formed");
     expect(dergamoyne_heap_work(&spare, 9) == DERGAMOYNE_DONE && dergamoyne_heap_work(&h, 9) == DERGAMOYNE_DONE && same(&spare, &h),
@@ -521,11 +521,69 @@ static void images(void)
     expect(dergamoyne_heap_lend_image(&other, image, LENGTH, words, 23, colours, 3, bytes, 3) == DERGAMOYNE_OTHER_LENGTH, "other lengths");
     expect(dergamoyne_heap_save(&other, image, sizeof image) == DERGAMOYNE_DOES_NOT_FIT, "save of no heap");
     for (size_t length = 0; length < sizeof image; length++)
-        expect(length == LENGTH || dergamoyne_heap_open_image(&other, image, length) == DERGAMOYNE_NOT_WELL_FORMED, "another length");
+        expect(length == LENGTH || length == EARLIER || dergamoyne_heap_open_image(&other, image, length) == DERGAMOYNE_NOT_WELL_FORMED, "another length");
+    expect(dergamoyne_heap_open_image(&other, image, EARLIER) == DERGAMOYNE_NOT_WELL_FORMED, "ten registers in the length of nine");
     h.colours[0] = 5;
     expect(dergamoyne_heap_save(&h, image, sizeof image) == DERGAMOYNE_NOT_WELL_FORMED, "save of a damaged heap");
     dergamoyne_heap_close(&h);
     dergamoyne_heap_close(&spare);
+}
+
+/* The image that a version before 0.7.0 wrote of the same heap has nine registers, so it is four bytes shorter. It is read with the
+   mark at the last block. */
+static void earlier_images(void)
+{
+    enum { LENGTH = 56 + 37 * 3, EARLIER = 52 + 37 * 3, BEHIND_NINE = 40, BEHIND_TEN = 44 };
+    struct dergamoyne_heap h, spare;
+    uint8_t image[LENGTH], earlier[EARLIER], again[LENGTH];
+    running(&h);
+    expect(DERGAMOYNE_EARLIER_IMAGE_BYTES(3) == EARLIER, "the length of an earlier image");
+    expect(dergamoyne_heap_save(&h, image, LENGTH) == DERGAMOYNE_DONE, "save");
+    memcpy(earlier, image, BEHIND_NINE);
+    memcpy(earlier + BEHIND_NINE, image + BEHIND_TEN, LENGTH - BEHIND_TEN);
+    earlier[0] = 9;
+    expect(dergamoyne_heap_open_image(&spare, earlier, EARLIER) == DERGAMOYNE_DONE && spare.regs.mark == 4, "an earlier image");
+    spare.regs.mark = h.regs.mark;
+    expect(same(&spare, &h), "all but the mark is the same");
+    expect(dergamoyne_heap_load(&spare, earlier, EARLIER) == DERGAMOYNE_DONE && spare.regs.mark == 4, "an earlier image, loaded");
+    expect(dergamoyne_heap_save(&spare, again, LENGTH) == DERGAMOYNE_DONE && again[0] == 10 && again[40] == 4, "written with ten");
+    for (size_t length = 0; length < EARLIER; length++)
+        expect(dergamoyne_heap_load(&spare, earlier, length) == DERGAMOYNE_NOT_WELL_FORMED, "an earlier image that is cut");
+    earlier[0] = 8;
+    expect(dergamoyne_heap_load(&spare, earlier, EARLIER) == DERGAMOYNE_NOT_WELL_FORMED, "eight registers");
+    dergamoyne_heap_close(&h);
+    dergamoyne_heap_close(&spare);
+}
+
+/* ---- a small report on a large heap ---- */
+
+/* Of the largest heap ten blocks are ever in use: a cycle marks ten, and sweeps ten. */
+static void small_report(void)
+{
+    struct dergamoyne_heap h;
+    uint32_t last = 0, cycles;
+    expect(dergamoyne_heap_open(&h, DERGAMOYNE_MOST_BLOCKS, 1) == DERGAMOYNE_DONE && h.regs.mark == 1, "the largest heap");
+    expect(dergamoyne_heap_first_row(&h, LINK, &last) == DERGAMOYNE_DONE, "a row");
+    for (uint32_t i = 1; i < 10; i++)
+        expect(dergamoyne_heap_new_row(&h, last, LINK, LINK, &last) == DERGAMOYNE_DONE, "a row");
+    expect(h.regs.mark == 11 && last == 11, "the mark is the last block handed out");
+    while (dergamoyne_heap_phase(&h) != DERGAMOYNE_IDLE)
+        expect(dergamoyne_heap_work(&h, 1) == DERGAMOYNE_DONE, "to the cycle's end");
+    cycles = dergamoyne_heap_cycles(&h);
+    expect(dergamoyne_heap_work(&h, 2 + 10 + 10) == DERGAMOYNE_DONE && dergamoyne_heap_phase(&h) == DERGAMOYNE_IDLE &&
+               dergamoyne_heap_cycles(&h) == cycles + 1,
+           "a whole cycle");
+    expect(dergamoyne_heap_clear_root(&h) == DERGAMOYNE_DONE && dergamoyne_heap_collect(&h) == DERGAMOYNE_DONE &&
+               dergamoyne_heap_free_blocks(&h) == DERGAMOYNE_MOST_BLOCKS,
+           "all is collected");
+    expect(dergamoyne_heap_cycles(&h) - cycles < 9 && h.regs.mark == 11, "by a few short cycles");
+    h.regs.mark = 0;
+    expect(dergamoyne_heap_work(&h, 1) == DERGAMOYNE_REGISTERS && dergamoyne_heap_collect(&h) == DERGAMOYNE_REGISTERS, "no mark");
+    h.regs.mark = DERGAMOYNE_MOST_BLOCKS + 2;
+    expect(dergamoyne_heap_collect(&h) == DERGAMOYNE_REGISTERS && dergamoyne_heap_check(&h) == DERGAMOYNE_REGISTERS, "too high a mark");
+    h.regs.mark = 11;
+    expect(dergamoyne_heap_check(&h) == DERGAMOYNE_DONE, "as it was");
+    dergamoyne_heap_close(&h);
 }
 
 /* The largest heap, as Format makes it, and one of a block more. */
@@ -537,10 +595,10 @@ static void put_four(uint8_t **at, uint32_t n)
         *(*at)++ = (uint8_t)(n >> shift);
 }
 
-/* The image of m free blocks in rising order, at pace 1. */
+/* The image of m free blocks in rising order, at pace 1, none of them ever handed out. The last number is the count of colours. */
 static void put_fresh(uint8_t *at, uint32_t m)
 {
-    const uint32_t registers[] = {9, m, 1, 0, 1, 2, m, 0, 0, 0, m};
+    const uint32_t registers[] = {10, m, 1, 0, 1, 2, m, 0, 0, 0, 1, m};
     for (size_t i = 0; i < sizeof registers / sizeof *registers; i++)
         put_four(&at, registers[i]);
     for (uint32_t i = 0; i < m; i++)
@@ -615,6 +673,8 @@ int main(void)
     whys();
     longest_path();
     images();
+    earlier_images();
+    small_report();
     largest_images();
     texts();
     versions();

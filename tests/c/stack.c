@@ -11,7 +11,7 @@ enum { M = 40, STACK = 1 << 16, FILLED = 0xA5, TURNS = 20000 };
 
 static struct MACHINE(regs) regs;
 static uint32_t words[8 * M], colours[M], out[8 * M], queue[M], came[M];
-static uint8_t bytes[M], image[52 + 37 * M];
+static uint8_t bytes[M], image[56 + 37 * M];
 static struct heap heap = {.regs = &regs, .words = words, .colours = colours, .out = out, .queue = queue, .came = came,
                            .bytes = bytes, .image = image, .words_length = 8 * M, .colours_length = M, .bytes_length = M,
                            .out_length = 8 * M, .image_length = sizeof image, .queue_length = M, .came_length = M};

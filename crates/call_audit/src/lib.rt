@@ -41,7 +41,7 @@ fn block_passes(r: Regs, words: &[u32], colours: &[u32], bytes: &[u8], b: u32) -
     let part = &words[at..end];
     let byte = bytes[i];
     let s = part_state::state_of(r.blocks, r.phase, r.position, colours, b);
-    let asked = part_block::ask(r.phase, r.position, part, byte, b, s);
+    let asked = part_block::ask(r.phase, r.position, r.mark, part, byte, b, s);
     passes_asked(r, colours, part, byte, asked)
 }
 

@@ -42,6 +42,7 @@ fn fresh_regs(r: Regs, m: u32, u: u32) -> Regs
     s.position = 0;
     s.root = 0;
     s.cycle = 0;
+    s.mark = machine::NONE_USED;
     s
 }
 

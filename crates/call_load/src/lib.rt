@@ -1,5 +1,5 @@
 // Load: the heap of an image, read into lent buffers. The image is audited as it lies, before anything is written; of the old heap only
-// the buffers' lengths are looked at. Its cost is linear in M.
+// the buffers' lengths are looked at. An image with nine registers is read with the mark at M + 1. Its cost is linear in M.
 use machine::Outcome;
 use machine::Regs;
 ghost use mathlib.Core.Path.{_≡_};
@@ -8,19 +8,19 @@ ghost use Prim.Native.Nat.{_*_};
 ghost use lib.ListN.{length};
 ghost use Rattle.machine.specs.Heap.{heap};
 ghost use Rattle.machine.specs.Answers.{given};
-ghost use Rattle.machine.specs.Image.{decode};
+ghost use Rattle.machine.specs.Image.{coloursIn, bytesIn, wordsIn};
 ghost use Rattle.machine.specs.Load.{load};
 ghost use Rattle.part_image_lists.specs.Laid.{Laid};
 
 // The three buffers of m blocks, section by section.
-fn read(words: &mut [u32], colours: &mut [u32], bytes: &mut [u8], image: &[u8], m: u32)
-    requires { ⌜ Laid m (now image) × (length (now words) ≡ 8 * m) × (length (now colours) ≡ m) × (length (now bytes) ≡ m) ⌝ }
-    ensures { λ _. ⌜ (now (words .exit) ≡ decode (now (image .entry)) .words) × (now (colours .exit) ≡ decode (now (image .entry)) .colours) × (now (bytes .exit) ≡ decode (now (image .entry)) .bytes) ⌝ }
+fn read(words: &mut [u32], colours: &mut [u32], bytes: &mut [u8], sections: &[u8], m: u32)
+    requires { ⌜ Laid m (now sections) × (length (now words) ≡ 8 * m) × (length (now colours) ≡ m) × (length (now bytes) ≡ m) ⌝ }
+    ensures { λ _. ⌜ (now (words .exit) ≡ wordsIn (now (sections .entry))) × (now (colours .exit) ≡ coloursIn (now (sections .entry))) × (now (bytes .exit) ≡ bytesIn (now (sections .entry))) ⌝ }
 {
     let n = m as usize;
-    part_image::get_fours(image, part_image::COLOURS_AT + 4, colours);
-    part_image::get_bytes(image, part_image::bytes_at(n) + 4, bytes);
-    part_image::get_fours(image, part_image::words_at(n) + 4, words);
+    part_image::get_fours(sections, 4, colours);
+    part_image::get_bytes(sections, part_image::frame::bytes_at(n) + 4, bytes);
+    part_image::get_fours(sections, part_image::frame::words_at(n) + 4, words);
 }
 
 // Load: refused by 10 where the image isn't that of a heap that the audit accepts, with nothing after it, by 13 where a buffer hasn't the
@@ -35,9 +35,10 @@ pub fn load(
     ensures { λ o. ⌜ given o (now (words .exit)) (now (colours .exit)) (now (bytes .exit)) ≡ load (now (image .entry)) (heap r (now (words .entry)) (now (colours .entry)) (now (bytes .entry))) ⌝ }
 {
     if part_image_audit::is_image(image) {
-        let s = part_image::get_registers(image);
+        let s = part_image::frame::get_registers(image);
         if part_checks::lengths_fit(s.blocks, words.len(), colours.len(), bytes.len()) {
-            read(words, colours, bytes, image, s.blocks);
+            let sections = part_image::frame::behind_registers(image);
+            read(words, colours, bytes, sections, s.blocks);
             return part_checks::done(s, 0);
         }
         return part_checks::refused(r, machine::BAD_LENGTH);

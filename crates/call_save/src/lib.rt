@@ -7,8 +7,8 @@ ghost use mathlib.Core.List.{_++_};
 ghost use Prim.Native.Nat.{_≤_};
 ghost use lib.ListN.{length, drop};
 ghost use Rattle.machine.specs.Heap.{heap};
-ghost use Rattle.machine.specs.Image.{numbers, registersOf, encode};
-ghost use Rattle.machine.specs.Frame.{coloursAt, imageLength, Sized};
+ghost use Rattle.machine.specs.Image.{numbers, registersOf, registerCount, encode};
+ghost use Rattle.machine.specs.Frame.{blocksAt, imageLength, Sized};
 ghost use Rattle.machine.specs.Save.{save};
 ghost use Rattle.part_image.specs.Placing.{placed};
 
@@ -25,7 +25,7 @@ fn answer(refusal: u32) -> Answer
 
 // The registers' section, at the start of the output.
 fn put_registers(r: Regs, out: &mut [u8])
-    requires { ⌜ coloursAt ≤ length (now out) ⌝ }
+    requires { ⌜ blocksAt registerCount ≤ length (now out) ⌝ }
     ensures { λ _. ⌜ now (out .exit) ≡ placed 0 (numbers (registersOf r)) (now (out .entry)) ⌝ }
 {
     let registers = [
@@ -38,6 +38,7 @@ fn put_registers(r: Regs, out: &mut [u8])
         r.position,
         r.root,
         r.cycle,
+        r.mark,
     ];
     part_image::put_numbers(out, 0, &registers);
 }
@@ -54,9 +55,10 @@ fn write(r: Regs, words: &[u32], colours: &[u32], bytes: &[u8], out: &mut [u8])
 {
     let m = r.blocks as usize;
     put_registers(r, out);
-    part_image::put_numbers(out, part_image::COLOURS_AT, colours);
-    part_image::put_singles(out, part_image::bytes_at(m), bytes);
-    part_image::put_numbers(out, part_image::words_at(m), words);
+    let at = part_image::frame::BLOCKS_AT;
+    part_image::put_numbers(out, at, colours);
+    part_image::put_singles(out, at + part_image::frame::bytes_at(m), bytes);
+    part_image::put_numbers(out, at + part_image::frame::words_at(m), words);
 }
 
 // Save: refused by 1 where M, the pace or a length doesn't fit, by 10 where the audit turns the heap down, by 13 where the output is
@@ -70,7 +72,7 @@ pub fn save(r: Regs, words: &[u32], colours: &[u32], bytes: &[u8], out: &mut [u8
 {
     if part_checks::fits(r.blocks, r.pace, words.len(), colours.len(), bytes.len()) {
         if call_audit::passes(r, words, colours, bytes) {
-            if out.len() < part_image::image_length(r.blocks as usize) {
+            if out.len() < part_image::frame::image_length(r.blocks as usize) {
                 return answer(machine::BAD_LENGTH);
             }
             write(r, words, colours, bytes, out);

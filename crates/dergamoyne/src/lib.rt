@@ -39,7 +39,7 @@ pub struct LookAnswer {
 pub extern "C" fn dergamoyne_version() -> u32
     ensures { λ n. ⌜ n ≡ version ⌝ }
 {
-    6000
+    7000
 }
 
 // How many bytes a register record takes in memory.
@@ -47,7 +47,7 @@ pub extern "C" fn dergamoyne_version() -> u32
 pub extern "C" fn dergamoyne_record_size() -> u32
     ensures { λ n. ⌜ n ≡ recordSize ⌝ }
 {
-    36
+    40
 }
 
 // Format (M, U), or refusal 1.

@@ -23,6 +23,7 @@ fn zeroes() -> Regs {
         position: 0,
         root: 0,
         cycle: 0,
+        mark: 0,
     }
 }
 

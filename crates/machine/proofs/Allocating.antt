@@ -24,7 +24,7 @@ use Rattle.machine.specs.declared.Colour.{Colour}
 use Rattle.machine.specs.declared.Colour.the-variants.{White, Black}
 use Rattle.machine.specs.Tests.{_▷_}
 use Rattle.machine.specs.Rounding.{roundedUp}
-use Rattle.machine.specs.Registers.{withFree, withCount, withRoot}
+use Rattle.machine.specs.Registers.{withFree, withCount, withRoot, withMark}
 use Rattle.machine.specs.Block.{base}
 use Rattle.machine.specs.Colouring.{isFree, painted}
 use Rattle.machine.specs.Heap.{Heap, heap, colouring, withRegs}
@@ -105,11 +105,12 @@ module _ (h : Heap) where
     λ c. by-eq (h .regs .free) 0 (λ f. absurd (omega (arith, list-none f c))) (λ f. absurd (omega (arith, list-counted f c))),
   )
 
-  pub taken-as : {link : ℕ} {x : Colour} (ws cs : List ℕ) → link ≡ getD (h .words) (base (h .regs .free)) 0 → ws ≡ set (h .words) (base (h .regs .free)) 0
+  pub taken-as : {link mark : ℕ} {x : Colour} (ws cs : List ℕ) → link ≡ getD (h .words) (base (h .regs .free)) 0 → ws ≡ set (h .words) (base (h .regs .free)) 0
       → x ≡ newColour (h .regs) (h .regs .free) → cs ≡ painted (h .regs .free) x (colouring h) .cells
-      → heap (withCount (h .regs .count - 1) (withFree link (h .regs))) ws cs (h .bytes) ≡ taken h
+      → mark ≡ max (h .regs .mark) (h .regs .free)
+      → heap (withMark mark (withCount (h .regs .count - 1) (withFree link (h .regs)))) ws cs (h .bytes) ≡ taken h
   unfolding taken
-  taken-as ws cs l w x c = rw (l, w, c, x, add-zero (base (h .regs .free))) refl
+  taken-as ws cs l w x c k = rw (l, w, c, x, k, add-zero (base (h .regs .free))) refl
 
   pub held-root : (b w x : ℕ) → b ≡ 0 → withRegs (withRoot x (h .regs)) h ≡ held b w x h
   unfolding held

@@ -15,7 +15,8 @@ use mathlib.Core.List.{List, _∷_, List·Memᴰ, List·Memᴰ·head, List·Mem�
 use lib.ListN.{length}
 use Rattle.machine.specs.Lists.{Listed, ends, goes, Exactly}
 use Rattle.machine.proofs.Tests.{by-eq}
-use Rattle.machine.proofs.Listing.{Distinct, more, listed-distinct}
+use Rattle.machine.specs.Lists.{Distinct, more}
+use Rattle.machine.proofs.Listing.{listed-distinct}
 
 pub listed-same : {next next′ : ℕ → ℕ} {end a : ℕ} {l : List ℕ} → Listed next end a l → ((x : ℕ) → List·Memᴰ x l → next′ x ≡ next x) → Listed next′ end a l
 listed-same (ends e) same = ends e

@@ -21,7 +21,7 @@ use borrow.Author.Tests.{eqb-true, eq-eqb, ne-eqb}
 use Rattle.machine.specs.Tests.{if_then_else_}
 use Rattle.machine.specs.Lists.{allFrom, countFrom}
 use Rattle.machine.proofs.Tests.{both-true, both, either-true, by-test, by-eq, clash}
-use Rattle.machine.proofs.Listing.{Distinct, empty, more}
+use Rattle.machine.specs.Lists.{Distinct, empty, more}
 
 module _ (p : ℕ → Bool) where
   pub all-holds : (n b : ℕ) → allFrom p n b ≡ true → (x : ℕ) → b ≤ x → x < b + n → p x ≡ true

@@ -6,7 +6,7 @@
 --     none-or-high                 the same test by two comparisons
 --     legal-idle, legal-marking, legal-sweeping, legal-nowhere     the phase, the grey head and the position, phase by phase
 --     fits-lengths, unfit-lengths  what fits, the lengths tested first
---     legal-as, illegal-phase, illegal-free, illegal-count     legal registers, the tests in another order
+--     legal-as, illegal-phase, illegal-free, illegal-count, illegal-mark     legal registers, the tests in another order
 -- Assumes nothing.
 use Prim.Native.Nat.{ℕ, _+_, _*_, _≤_, _<_}
 use mathlib.Core.Path.{_≡_, refl, sym, _∙_}
@@ -22,7 +22,7 @@ use Rattle.machine.specs.Registers.{idle, marking, sweeping, sweepEnd}
 use Rattle.machine.specs.Block.{isBlock}
 use Rattle.machine.specs.Colouring.{coloursFit, headLegal}
 use Rattle.machine.specs.Heap.{Heap}
-use Rattle.machine.specs.Entry.{numbersFit, lengthsFit, fits, heapFits, isBlockOrNone, positionLegal, legal, entry}
+use Rattle.machine.specs.Entry.{numbersFit, lengthsFit, fits, heapFits, isBlockOrNone, markLegal, positionLegal, legal, entry}
 use Rattle.machine.specs.WellFormed.{Block}
 use Rattle.machine.specs.Ready.{Ready}
 use Rattle.machine.proofs.Tests.{both-true, both, either-true, by-test, by-eq, clash}
@@ -58,6 +58,16 @@ none-or-high m b l = by-eq b 1
 pub none-above : (m b : ℕ) → m + 1 < b → false ≡ isBlockOrNone m b
 unfolding isBlockOrNone isBlock
 none-above m b l = simp (ne-eqb b 0 (λ z. absurd (omega arith)), le-leb 2 b (omega arith), lt-leb b (m + 1) l)
+
+marked-of : (r : Regs) → markLegal r ≡ true → (1 ≤ r .mark) × (r .mark ≤ r .blocks + 1)
+unfolding markLegal
+marked-of r e =
+    let l = both-true (leb 1 (r .mark)) (leb (r .mark) (r .blocks + 1)) e in
+    (leb-true _ _ (l .0), leb-true _ _ (l .1))
+
+mark-of : (r : Regs) → (1 ≤ r .mark) × (r .mark ≤ r .blocks + 1) → markLegal r ≡ true
+unfolding markLegal
+mark-of r l = both (le-leb _ _ (l .0)) (le-leb _ _ (l .1))
 
 placed-of : (r : Regs) → positionLegal r ≡ true → r .phase ≡ sweeping → (2 ≤ r .position) × (r .position ≤ sweepEnd r)
 unfolding positionLegal
@@ -103,51 +113,66 @@ module _ (r : Regs) where
   unfolding headLegal positionLegal
   legal-marking p e = e ∙ rw p (and-swap (eqb (r .position) 0) (eqb (r .grey) 1 || isBlock (r .blocks) (r .grey)))
 
-  pub legal-sweeping : {x : Bool} → r .phase ≡ sweeping → x ≡ (eqb (r .grey) 1 && isBlock (r .blocks) (r .position)) → x ≡ phaseLegal
-  unfolding headLegal positionLegal isBlock
+  pub legal-sweeping : {x : Bool} → r .phase ≡ sweeping → x ≡ (eqb (r .grey) 1 && (leb 2 (r .position) && leb (r .position) (sweepEnd r))) → x ≡ phaseLegal
+  unfolding headLegal positionLegal
   legal-sweeping p e = e ∙ rw p (go (eqb (r .grey) 1))
     where
-      go : (t : Bool) → (t && (leb 2 (r .position) && leb (r .position) (r .blocks + 1))) ≡ ((t || false) && (leb 2 (r .position) && leb (r .position) (r .blocks + 1)))
+      go : (t : Bool) → (t && (leb 2 (r .position) && leb (r .position) (sweepEnd r))) ≡ ((t || false) && (leb 2 (r .position) && leb (r .position) (sweepEnd r)))
       go true = refl
       go false = refl
 
   pub legal-nowhere : r .phase ≢ idle → r .phase ≢ marking → r .phase ≢ sweeping → false ≡ phaseLegal
   legal-nowhere i k s = simp (lt-leb (r .phase) 2 (omega arith))
 
-  -- the order of the tests is free
-  pub legal-as : leb (r .count) (r .blocks) ≡ true → phaseLegal ≡ true → isBlockOrNone (r .blocks) (r .free) ≡ true
-      → {x : Bool} → x ≡ isBlockOrNone (r .blocks) (r .root) → x ≡ legal r
-  unfolding legal
-  legal-as c p f e =
-      let (l, q) = both-true (leb (r .phase) 2) (headLegal (r .blocks) (r .phase) (r .grey) && positionLegal r) p in
-      let (g, o) = both-true (headLegal (r .blocks) (r .phase) (r .grey)) (positionLegal r) q in
-      simp (l, g, f, c, o) (e ∙ sym (and-true (isBlockOrNone (r .blocks) (r .root))))
+  -- the tests of the registers, one by one
+  record Legal : Type 0 where
+    phase : leb (r .phase) 2 ≡ true
+    grey : headLegal (r .blocks) (r .phase) (r .grey) ≡ true
+    free : isBlockOrNone (r .blocks) (r .free) ≡ true
+    root : isBlockOrNone (r .blocks) (r .root) ≡ true
+    count : leb (r .count) (r .blocks) ≡ true
+    mark : markLegal r ≡ true
+    position : positionLegal r ≡ true
 
-  legal-parts : legal r ≡ true → (phaseLegal ≡ true) × (isBlockOrNone (r .blocks) (r .free) ≡ true) × (leb (r .count) (r .blocks) ≡ true)
+  legal-parts : legal r ≡ true → Legal
   unfolding legal
   legal-parts e =
-      let c5 = leb (r .count) (r .blocks) && positionLegal r in
+      let c6 = markLegal r && positionLegal r in
+      let c5 = leb (r .count) (r .blocks) && c6 in
       let c4 = isBlockOrNone (r .blocks) (r .root) && c5 in
       let c3 = isBlockOrNone (r .blocks) (r .free) && c4 in
       let l1 = both-true (leb (r .phase) 2) (headLegal (r .blocks) (r .phase) (r .grey) && c3) e in
       let l2 = both-true (headLegal (r .blocks) (r .phase) (r .grey)) c3 (l1 .1) in
       let l3 = both-true (isBlockOrNone (r .blocks) (r .free)) c4 (l2 .1) in
       let l4 = both-true (isBlockOrNone (r .blocks) (r .root)) c5 (l3 .1) in
-      let l5 = both-true (leb (r .count) (r .blocks)) (positionLegal r) (l4 .1) in
-      (both (l1 .0) (both (l2 .0) (l5 .1)), l3 .0, l5 .0)
+      let l5 = both-true (leb (r .count) (r .blocks)) c6 (l4 .1) in
+      let l6 = both-true (markLegal r) (positionLegal r) (l5 .1) in
+      record { phase = l1 .0; grey = l2 .0; free = l3 .0; root = l4 .0; count = l5 .0; mark = l6 .0; position = l6 .1 }
+
+  -- the order of the tests is free
+  pub legal-as : leb (r .count) (r .blocks) ≡ true → markLegal r ≡ true → phaseLegal ≡ true → isBlockOrNone (r .blocks) (r .free) ≡ true
+      → {x : Bool} → x ≡ isBlockOrNone (r .blocks) (r .root) → x ≡ legal r
+  unfolding legal
+  legal-as c k p f e =
+      let (l, q) = both-true (leb (r .phase) 2) (headLegal (r .blocks) (r .phase) (r .grey) && positionLegal r) p in
+      let (g, o) = both-true (headLegal (r .blocks) (r .phase) (r .grey)) (positionLegal r) q in
+      simp (l, g, f, c, k, o) (e ∙ sym (and-true (isBlockOrNone (r .blocks) (r .root))))
 
   -- a test that fails makes the whole fail
-  fails : {t : Bool} → (legal r ≡ true → t ≡ true) → t ≡ false → false ≡ legal r
-  fails f e = by-test (legal r) (λ l. clash (f l) e) (λ l. sym l)
+  fails : {t : Bool} → (Legal → t ≡ true) → t ≡ false → false ≡ legal r
+  fails f e = by-test (legal r) (λ l. clash (f (legal-parts l)) e) (λ l. sym l)
 
   pub illegal-phase : phaseLegal ≡ false → false ≡ legal r
-  illegal-phase e = fails (λ l. legal-parts l .0) e
+  illegal-phase e = fails (λ l. both (l .phase) (both (l .grey) (l .position))) e
 
   pub illegal-free : isBlockOrNone (r .blocks) (r .free) ≡ false → false ≡ legal r
-  illegal-free e = fails (λ l. legal-parts l .1) e
+  illegal-free e = fails (λ l. l .free) e
 
   pub illegal-count : leb (r .count) (r .blocks) ≡ false → false ≡ legal r
-  illegal-count e = fails (λ l. legal-parts l .2) e
+  illegal-count e = fails (λ l. l .count) e
+
+  pub illegal-mark : markLegal r ≡ false → false ≡ legal r
+  illegal-mark e = fails (λ l. l .mark) e
 
 -- the lengths are tested first
 pub fits-lengths : (m u lw lc lb : ℕ) → lengthsFit m lw lc lb ≡ true → {x : Bool} → x ≡ numbersFit m u → x ≡ fits m u lw lc lb
@@ -158,24 +183,18 @@ pub unfit-lengths : (m u lw lc lb : ℕ) → lengthsFit m lw lc lb ≡ false →
 unfolding fits
 unfit-lengths m u lw lc lb l = simp l (sym (and-swap (numbersFit m u) false))
 
--- the parts of the two tests, one by one
-record Parts (h : Heap) : Type 0 where
+-- the parts of what fits, one by one
+record Fit (h : Heap) : Type 0 where
   some : leb 1 (h .regs .blocks) ≡ true
   most : leb (h .regs .blocks) 16384 ≡ true
   pace : leb (h .regs .pace) 65535 ≡ true
   words : eqb (length (h .words)) (8 * h .regs .blocks) ≡ true
   colours : coloursFit (h .regs .blocks) (length (h .colours)) ≡ true
   bytes : eqb (length (h .bytes)) (h .regs .blocks) ≡ true
-  phase : leb (h .regs .phase) 2 ≡ true
-  grey : headLegal (h .regs .blocks) (h .regs .phase) (h .regs .grey) ≡ true
-  free : isBlockOrNone (h .regs .blocks) (h .regs .free) ≡ true
-  root : isBlockOrNone (h .regs .blocks) (h .regs .root) ≡ true
-  count : leb (h .regs .count) (h .regs .blocks) ≡ true
-  position : positionLegal (h .regs) ≡ true
 
-parts : (h : Heap) → heapFits h ≡ true → legal (h .regs) ≡ true → Parts h
-unfolding fits numbersFit lengthsFit legal
-parts h f l =
+fit-parts : (h : Heap) → heapFits h ≡ true → Fit h
+unfolding fits numbersFit lengthsFit
+fit-parts h f =
     let r = h .regs in
     let m = r .blocks in
     let a = both-true (numbersFit m (r .pace)) (lengthsFit m (length (h .words)) (length (h .colours)) (length (h .bytes))) f in
@@ -183,32 +202,12 @@ parts h f l =
     let a2 = both-true (leb m 16384) (leb (r .pace) 65535) (a1 .1) in
     let b1 = both-true (eqb (length (h .words)) (8 * m)) (coloursFit m (length (h .colours)) && eqb (length (h .bytes)) m) (a .1) in
     let b2 = both-true (coloursFit m (length (h .colours))) (eqb (length (h .bytes)) m) (b1 .1) in
-    let c5 = leb (r .count) m && positionLegal r in
-    let c4 = isBlockOrNone m (r .root) && c5 in
-    let c3 = isBlockOrNone m (r .free) && c4 in
-    let l1 = both-true (leb (r .phase) 2) (headLegal m (r .phase) (r .grey) && c3) l in
-    let l2 = both-true (headLegal m (r .phase) (r .grey)) c3 (l1 .1) in
-    let l3 = both-true (isBlockOrNone m (r .free)) c4 (l2 .1) in
-    let l4 = both-true (isBlockOrNone m (r .root)) c5 (l3 .1) in
-    let l5 = both-true (leb (r .count) m) (positionLegal r) (l4 .1) in
-    record {
-      some = a1 .0;
-      most = a2 .0;
-      pace = a2 .1;
-      words = b1 .0;
-      colours = b2 .0;
-      bytes = b2 .1;
-      phase = l1 .0;
-      grey = l2 .0;
-      free = l3 .0;
-      root = l4 .0;
-      count = l5 .0;
-      position = l5 .1;
-    }
+    record { some = a1 .0; most = a2 .0; pace = a2 .1; words = b1 .0; colours = b2 .0; bytes = b2 .1 }
 
 pub tests-ready : (h : Heap) → heapFits h ≡ true → legal (h .regs) ≡ true → Ready h
 tests-ready h f l =
-    let p = parts h f l in
+    let p = fit-parts h f in
+    let q = legal-parts (h .regs) l in
     record {
       some = leb-true _ _ (p .some);
       most = leb-true _ _ (p .most);
@@ -216,13 +215,14 @@ tests-ready h f l =
       words = eqb-true _ _ (p .words);
       colours = eqb-true _ _ (p .colours);
       bytes = eqb-true _ _ (p .bytes);
-      phase = leb-true _ _ (p .phase);
-      grey = p .grey;
-      free = none-or-block _ _ (p .free);
-      root = none-or-block _ _ (p .root);
-      count = leb-true _ _ (p .count);
-      placed = placed-of _ (p .position);
-      parked = parked-of _ (p .position);
+      phase = leb-true _ _ (q .phase);
+      grey = q .grey;
+      free = none-or-block _ _ (q .free);
+      root = none-or-block _ _ (q .root);
+      count = leb-true _ _ (q .count);
+      marked = marked-of _ (q .mark);
+      placed = placed-of _ (q .position);
+      parked = parked-of _ (q .position);
     }
 
 pub ready-fits : (h : Heap) → Ready h → heapFits h ≡ true
@@ -237,7 +237,8 @@ ready-legal h d =
     both (le-leb _ _ (d .phase))
     (both (d .grey)
     (both (block-or-none _ _ (d .free))
-    (both (block-or-none _ _ (d .root)) (both (le-leb _ _ (d .count)) (position-of (h .regs) (d .placed) (d .parked))))))
+    (both (block-or-none _ _ (d .root))
+    (both (le-leb _ _ (d .count)) (both (mark-of (h .regs) (d .marked)) (position-of (h .regs) (d .placed) (d .parked)))))))
 
 pub entry-ready : (h : Heap) → entry h ≡ 0 → Ready h
 unfolding entry

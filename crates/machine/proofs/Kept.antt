@@ -26,12 +26,13 @@ use Rattle.machine.specs.Heap.{Heap, heap, colouring, colourOf, withRegs
 use Rattle.machine.specs.WellFormed.{Block}
 use Rattle.machine.specs.Ready.{Ready}
 use Rattle.machine.specs.Layout.{Fitting}
-use Rattle.machine.specs.OneUnit.{UnitEnd, metBlock, metWord, begun, marked, allSound, turned, advance, reclaimed, whitened, passed, act, unit, ended}
+use Rattle.machine.specs.OneUnit.{UnitEnd, metBlock, metWord, begun, marked, allSound, turnedRegs, turned, advance, reclaimed, whitened, passed, act, unit, ended}
 use Rattle.machine.specs.Units.{RunEnd, run}
 use Rattle.machine.proofs.Tests.{by-eq, if-ind, clash}
 use Rattle.machine.proofs.Blocks.{block-isBlock}
 use Rattle.machine.proofs.Linked.{linked}
 use Rattle.machine.proofs.Steps.{step-cases}
+use Rattle.machine.proofs.Running.{sweeps-block}
 use Rattle.machine.proofs.Setting.{ready-words, ready-colours, ready-bytes, ready-grey, ready-free, ready-count, ready-cycle, ready-course}
 
 pub greyWhite-blocks : (b : ℕ) (k : Colouring) → greyWhite b k .blocks ≡ k .blocks
@@ -124,17 +125,22 @@ met-grey h k b =
     ∙ simp (ne-eqb (h .regs .phase) idle (λ z. absurd (omega arith)), eq-eqb (h .regs .phase) marking k, block-isBlock _ _ b))
 
 pub turned-kept : (h : Heap) → Ready h → h .regs .grey ≡ 1 → Ready (turned h)
-unfolding turned
+unfolding turned turnedRegs
 turned-kept h d g =
-    let b = d .some in
+    let k = d .marked in
+    if-ind (λ (r : Regs). Ready (withRegs r h)) (eqb (sweepEnd (h .regs)) 1)
+    (λ e.
+    ready-course d idle 0
+    (record { phase = omega arith; grey = rw g (linked .one _ _); placed = λ z. absurd (omega arith); parked = λ z. refl }))
+    (λ e.
+    let n : sweepEnd (h .regs) ≢ 1 = eqb-false _ _ e in
     ready-course d sweeping 2
-    (record { phase = omega arith; grey = rw g (linked .one _ _); placed = λ z. (omega arith, omega arith); parked = λ z. absurd (z refl) })
+    (record { phase = omega arith; grey = rw g (linked .one _ _); placed = λ z. (omega arith, omega arith); parked = λ z. absurd (z refl) }))
 
 pub reclaimed-kept : (h : Heap) → Ready h → h .regs .phase ≡ sweeping → h .regs .count ≢ h .regs .blocks → Ready (reclaimed h)
 unfolding reclaimed
 reclaimed-kept h d s n =
-    let p = d .placed s in
-    let b : Block (h .regs .blocks) (h .regs .position) = record { low = p .0; high = p .1 } in
+    let b = sweeps-block h d s in
     let c = d .count in
     advance-kept _
     (ready-words

@@ -1,5 +1,4 @@
 -- Linked lists: a chain that ends meets no block twice.
---     Distinct l           no number stands twice in l
 --     same-length          from one block on there is one length only
 --     Onward next end b n  from b on the chain is a list, of at most n blocks
 --     from-member          so it is from any member of a list on, and no longer than that list
@@ -13,11 +12,7 @@ use mathlib.Core.Logic.{_⊎_, inl, inr}
 use mathlib.Core.List.{List, [], _∷_, List·Memᴰ, List·Memᴰ·not-nil, List·Memᴰ·cases-cons}
 use native.Mathlib.Omega.{arith}
 use lib.ListN.{length}
-use Rattle.machine.specs.Lists.{Listed, ends, goes}
-
-pub data Distinct : List ℕ → Type 0 where
-  empty : Distinct []
-  more : {a : ℕ} {l : List ℕ} → (List·Memᴰ a l → ⊥) → Distinct l → Distinct (a ∷ l)
+use Rattle.machine.specs.Lists.{Listed, ends, goes, Distinct, empty, more}
 
 -- from b on the chain is a list, of at most n blocks
 pub record Onward (next : ℕ → ℕ) (end b n : ℕ) : Type 0 where

@@ -4,17 +4,21 @@
 --     frees-no, frees-as                           the two ways of freesPass
 --     name-none, name-as                           the two ways of mayName
 --     white-as, doomed-as, grey-off, grey-named, black-off, black-as, freed-off, freed-as, outside-off     a block, state by state
---     block-as                                     a block, by its state
+--     free-state                                   a block is free exactly where its state is
+--     mark-low, mark-free, mark-off                the mark's test: a block at or below it, a free one, any other
+--     mark-state                                   that test before what the state asks
+--     block-as                                     a block, by the mark and its state
+--     block-state                                  what the state alone asks of a block that passes
 --     layout-greys, layout-plain                   where every block passes: the layout's part is the grey list's, and holds outside marking
 --     entry-no, blocks-fail, layout-off, root-off, passes-as     the five ways of passes
 --     audit-one, audit-none                        the two ways of audit
 -- Assumes nothing.
-use Prim.Native.Nat.{ℕ, zero, suc, _+_, _-_}
-use mathlib.Core.Path.{_≡_, refl, sym, _∙_}
+use Prim.Native.Nat.{ℕ, zero, suc, _+_, _-_, _≤_, _<_}
+use mathlib.Core.Path.{_≡_, refl, sym, _∙_, ap}
 use mathlib.Core.Logic.{_≢_}
-use mathlib.Core.Bool.{Bool, true, false, _&&_, or-false}
+use mathlib.Core.Bool.{Bool, true, false, _&&_, or-false, or-true}
 use mathlib.Core.List.{List}
-use borrow.Author.Tests.{eq-eqb, ne-eqb, eqb-true}
+use borrow.Author.Tests.{le-leb, lt-leb, eq-eqb, ne-eqb, eqb-true}
 use native.Mathlib.Omega.{arith}
 use lib.Dec.{eqb}
 use lib.ListN.{getD}
@@ -25,7 +29,7 @@ use Rattle.machine.specs.declared.State.{State}
 use Rattle.machine.specs.declared.State.the-variants as states
 use Rattle.machine.specs.Registers.{marking}
 use Rattle.machine.specs.Block.{base, wordOf, byteOf, eightWords, references}
-use Rattle.machine.specs.Colouring.{Colouring, greyColour, isGrey, isFree, greysPass, headLegal}
+use Rattle.machine.specs.Colouring.{Colouring, colourIn, freeColour, greyColour, isGrey, isFree, greysPass, headLegal}
 use Rattle.machine.specs.Heap.{Heap, colouring, colourOf}
 use Rattle.machine.specs.State.{ahead, stateFrom, stateIn, stateOf, mayBeBlack}
 use Rattle.machine.specs.Entry.{entry}
@@ -33,8 +37,8 @@ use Rattle.machine.specs.Ready.{Ready}
 use Rattle.machine.specs.Answers.{done}
 use Rattle.machine.specs.WellFormed.{Block}
 use Rattle.machine.specs.Audit.{allFrom, countFrom, walk, legalColour, isLegal, layoutPasses, mayBeNamed}
-use Rattle.machine.specs.Audit.{mayName, mayNameAll, zeroFrom, statePasses, blockPasses, freesPass, passes, audit}
-use Rattle.machine.proofs.Tests.{both-true, both, by-test, clash}
+use Rattle.machine.specs.Audit.{mayName, mayNameAll, zeroFrom, statePasses, markPasses, blockPasses, freesPass, passes, audit}
+use Rattle.machine.proofs.Tests.{both-true, both, if-ind, by-test, clash}
 use Rattle.machine.proofs.Colours.{inside-block, plain-passes}
 
 module _ (k : Colouring) (b : ℕ) where
@@ -102,17 +106,62 @@ module _ (r : Regs) (k : Colouring) (part : List ℕ) (byte b : ℕ) where
   unfolding statePasses
   outside-off = refl
 
+abbrev pub freeState : State → Bool
+freeState states.LiveWhite = false
+freeState states.Doomed = false
+freeState states.Grey = false
+freeState states.Black = false
+freeState states.Free = true
+freeState states.Outside = false
+
+-- a state is free exactly where the colour is
+free-colour : (r : Regs) (b : ℕ) (c : Colour) → freeState (stateFrom r b c) ≡ freeColour c
+unfolding stateFrom
+free-colour r b White = if-ind (λ s. freeState s ≡ false) (ahead r b) (λ e. refl) (λ e. refl)
+free-colour r b Grey = refl
+free-colour r b Black = refl
+free-colour r b Free = refl
+free-colour r b Outside = refl
+
+module _ (r : Regs) (k : Colouring) (b : ℕ) where
+  pub free-state : {s : State} {t : Bool} → s ≡ stateIn r k b → freeState s ≡ t → isFree k b ≡ t
+  unfolding stateIn
+  free-state i e = sym (free-colour r b (colourIn k b)) ∙ ap freeState (sym i) ∙ e
+
+  pub mark-low : (t : Bool) → b ≤ r .mark → t ≡ (markPasses r k b && t)
+  unfolding markPasses
+  mark-low t l = simp (le-leb b (r .mark) l)
+
+  pub mark-free : (t : Bool) → isFree k b ≡ true → t ≡ (markPasses r k b && t)
+  unfolding markPasses
+  mark-free t f = simp (f, or-true)
+
+  pub mark-off : (t : Bool) → isFree k b ≡ false → r .mark < b → false ≡ (markPasses r k b && t)
+  unfolding markPasses
+  mark-off t f l = simp (f, lt-leb b (r .mark) l)
+
+  -- with the state known
+  pub mark-state : (part : List ℕ) (byte : ℕ) {s told : State} {x t : Bool} → s ≡ told → x ≡ (markPasses r k b && t) → t ≡ statePasses r k part byte b told
+      → x ≡ (markPasses r k b && statePasses r k part byte b s)
+  mark-state part byte e p q = p ∙ rw (q, e) refl
+
 module _ (h : Heap) where
   pub block-as :
       (b : ℕ) (t : Bool) (s : State) (part : List ℕ) → s ≡ stateOf h b → part ≡ eightWords (h .words) b
-      → t ≡ statePasses (h .regs) (colouring h) part (byteOf (h .bytes) b) b s → t ≡ blockPasses h b
+      → t ≡ (markPasses (h .regs) (colouring h) b && statePasses (h .regs) (colouring h) part (byteOf (h .bytes) b) b s) → t ≡ blockPasses h b
   unfolding blockPasses
   block-as b t s part i p a = rw (a, i, p) refl
 
+  -- what the state alone asks of a block that passes
+  pub block-state : (b : ℕ) → blockPasses h b ≡ true
+      → statePasses (h .regs) (colouring h) (eightWords (h .words) b) (byteOf (h .bytes) b) b (stateOf h b) ≡ true
+  unfolding blockPasses
+  block-state b e = both-true (markPasses (h .regs) (colouring h) b) _ e .1
+
   -- a block that passes has a legal colour
   block-legal : (b : ℕ) → blockPasses h b ≡ true → isLegal (colouring h) b ≡ true
-  unfolding blockPasses stateIn stateFrom statePasses
-  block-legal b = go (colourOf h b)
+  unfolding stateIn stateFrom statePasses
+  block-legal b p = go (colourOf h b) (block-state b p)
     where
       go : (c : Colour) → statePasses (h .regs) (colouring h) (eightWords (h .words) b) (byteOf (h .bytes) b) b (stateFrom (h .regs) b c) ≡ true → legalColour c ≡ true
       go White e = refl
@@ -136,8 +185,8 @@ module _ (h : Heap) where
   module _ (o : h .regs .phase ≢ marking) where
     -- outside marking no block that passes is grey
     block-plain : (b : ℕ) → blockPasses h b ≡ true → isGrey (colouring h) b ≡ false
-    unfolding blockPasses stateIn stateFrom statePasses
-    block-plain b = go (colourOf h b)
+    unfolding stateIn stateFrom statePasses
+    block-plain b p = go (colourOf h b) (block-state b p)
       where
         go : (c : Colour) → statePasses (h .regs) (colouring h) (eightWords (h .words) b) (byteOf (h .bytes) b) b (stateFrom (h .regs) b c) ≡ true → greyColour c ≡ false
         go White e = refl

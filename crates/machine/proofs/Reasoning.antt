@@ -33,6 +33,7 @@ use Rattle.machine.specs.Why.{pathOf, liveReason, reasonOf, WhyGiven, wh
 use Rattle.machine.proofs.Tests.{clash, both-true}
 use Rattle.machine.proofs.Blocks.{isBlock-block}
 use Rattle.machine.proofs.Counting.{all-holds}
+use Rattle.machine.proofs.Passing.{block-state}
 
 -- what the call gives
 abbrev pub whyGiven : WhyAnswer → List ℕ → List ℕ → List ℕ → WhyGiven
@@ -40,7 +41,7 @@ whyGiven a path queue came = record { answer = a; path = path; queue = queue; ca
 
 module _ (h : Heap) (b : ℕ) where
   pub state-inside : passes h ≡ true → isBlock (h .regs .blocks) b ≡ true → stateOf h b ≢ states.Outside
-  unfolding passes blockPasses statePasses
+  unfolding passes statePasses
   state-inside p i o =
       let k = isBlock-block (h .regs .blocks) b i in
       let rest = mayName (h .regs) (colouring h) (eqb (h .regs .phase) marking) (h .regs .root) && freesPass (h .regs) (h .words) (colouring h) in
@@ -49,7 +50,7 @@ module _ (h : Heap) (b : ℕ) where
       let (d, e) = both-true (layoutPasses (colouring h)) (all && rest) c in
       let (f, g) = both-true all rest e in
       let here = all-holds (blockPasses h) (h .regs .blocks) 2 f b (k .low) (omega (arith, k .high)) in
-      clash here (rw o refl)
+      clash (block-state h b here) (rw o refl)
 
   pub live-path : isLive (stateOf h b) ≡ true → pathOf h b ≡ pathTo (h .regs .blocks) (searchOf h .came) b
   unfolding pathOf

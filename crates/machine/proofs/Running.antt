@@ -76,7 +76,10 @@ pub marks-block : (h : Heap) → Ready h → h .regs .grey ≢ 1 → Block (h .r
 marks-block h d n = head-block _ _ _ (d .grey) n .1
 
 pub sweeps-block : (h : Heap) → Ready h → h .regs .phase ≡ sweeping → Block (h .regs .blocks) (h .regs .position)
-sweeps-block h d s = let p = d .placed s in record { low = p .0; high = p .1 }
+sweeps-block h d s =
+    let p = d .placed s in
+    let k = d .marked in
+    record { low = p .0; high = omega arith }
 
 -- a unit with a grey block leaves the phase marking
 pub marking-stays : (h : Heap) → h .regs .phase ≡ marking → h .regs .grey ≢ 1 → unit h .heap .regs .phase ≡ marking

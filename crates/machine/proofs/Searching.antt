@@ -21,37 +21,37 @@ use Rattle.machine.specs.Tests.{if_then_else_}
 use Rattle.machine.specs.Block.{isBlock, index, bit, referencesFrom, references}
 use Rattle.machine.specs.WellFormed.{Block}
 use Rattle.machine.specs.Search.{namedIn, Found, found, cameTo, meet, visitFrom, visit, onward, begun, search}
-use Rattle.machine.specs.Searched.{marked, Ways, Searched}
+use Rattle.machine.specs.Searched.{nonZeros, Ways, Searched}
 use Rattle.machine.proofs.Tests.{by-test, by-eq, if-ind, both-true}
 use Rattle.machine.proofs.Blocks.{isBlock-block, below-isBlock}
 use Rattle.machine.proofs.Bytes.{below-eight}
 use Rattle.machine.proofs.LowestBit.{lowest-within, word-first, none-left}
 
 -- ---- how many numbers aren't 0
-marked-none : (n : ℕ) → marked (replicate n 0) ≡ 0
-unfolding marked
-marked-none zero = refl
-marked-none (suc n) = marked-none n
+nonZeros-none : (n : ℕ) → nonZeros (replicate n 0) ≡ 0
+unfolding nonZeros
+nonZeros-none zero = refl
+nonZeros-none (suc n) = nonZeros-none n
 
-marked-more : (ns : List ℕ) (i v : ℕ) → i < length ns → getD ns i 0 ≡ 0 → v ≢ 0 → marked (set ns i v) ≡ marked ns + 1
-unfolding marked
-marked-more [] i v l e n = absurd (omega arith)
-marked-more (zero ∷ ns) zero zero l e n = absurd (n refl)
-marked-more (zero ∷ ns) zero (suc v) l e n = omega arith
-marked-more (suc k ∷ ns) zero v l e n = absurd (omega arith)
-marked-more (zero ∷ ns) (suc i) v l e n = marked-more ns i v (omega arith) e n
-marked-more (suc k ∷ ns) (suc i) v l e n = let r = marked-more ns i v (omega arith) e n in omega arith
+nonZeros-more : (ns : List ℕ) (i v : ℕ) → i < length ns → getD ns i 0 ≡ 0 → v ≢ 0 → nonZeros (set ns i v) ≡ nonZeros ns + 1
+unfolding nonZeros
+nonZeros-more [] i v l e n = absurd (omega arith)
+nonZeros-more (zero ∷ ns) zero zero l e n = absurd (n refl)
+nonZeros-more (zero ∷ ns) zero (suc v) l e n = omega arith
+nonZeros-more (suc k ∷ ns) zero v l e n = absurd (omega arith)
+nonZeros-more (zero ∷ ns) (suc i) v l e n = nonZeros-more ns i v (omega arith) e n
+nonZeros-more (suc k ∷ ns) (suc i) v l e n = let r = nonZeros-more ns i v (omega arith) e n in omega arith
 
-marked-most : (ns : List ℕ) → marked ns ≤ length ns
-unfolding marked
-marked-most [] = omega arith
-marked-most (zero ∷ ns) = let r = marked-most ns in omega arith
-marked-most (suc k ∷ ns) = let r = marked-most ns in omega arith
+nonZeros-most : (ns : List ℕ) → nonZeros ns ≤ length ns
+unfolding nonZeros
+nonZeros-most [] = omega arith
+nonZeros-most (zero ∷ ns) = let r = nonZeros-most ns in omega arith
+nonZeros-most (suc k ∷ ns) = let r = nonZeros-most ns in omega arith
 
-marked-room : (ns : List ℕ) (i : ℕ) → i < length ns → getD ns i 0 ≡ 0 → marked ns < length ns
-marked-room ns i l e =
-    let r = marked-more ns i 1 l e (λ z. absurd (omega arith)) in
-    let s = marked-most (set ns i 1) in
+nonZeros-room : (ns : List ℕ) (i : ℕ) → i < length ns → getD ns i 0 ≡ 0 → nonZeros ns < length ns
+nonZeros-room ns i l e =
+    let r = nonZeros-more ns i 1 l e (λ z. absurd (omega arith)) in
+    let s = nonZeros-most (set ns i 1) in
     let t = length-set ns i 1 in
     omega arith
 
@@ -140,7 +140,7 @@ module _ (m : ℕ) where
       let high = b .high in
       let size = s .entries in
       let longer = length-append (f .blocks) (x ∷ []) in
-      let more = marked-more (f .came) (index x) v (omega arith) e n in
+      let more = nonZeros-more (f .came) (index x) v (omega arith) e n in
       record {
         entries = length-set (f .came) (index x) v ∙ size;
         counted = omega (arith, s .counted);
@@ -173,7 +173,7 @@ module _ (m : ℕ) where
   begun-searched root =
       let zeros : Searched m (found [] (replicate m 0)) = record {
         entries = length-replicate m 0;
-        counted = sym (marked-none m);
+        counted = sym (nonZeros-none m);
         blocks = λ i l. absurd (omega arith);
         ways = λ i l. absurd (no-way i l);
       } in
@@ -205,8 +205,8 @@ module _ (m : ℕ) where
 
   -- the blocks found are no more than there are entries
   pub searched-most : {f : Found} → Searched m f → length (f .blocks) ≤ m
-  searched-most {f} s = let l = marked-most (f .came) in let e = s .entries in let c = s .counted in omega arith
+  searched-most {f} s = let l = nonZeros-most (f .came) in let e = s .entries in let c = s .counted in omega arith
 
   -- an entry that is 0 leaves room for a block
   pub searched-room : {f : Found} (i : ℕ) → Searched m f → i < m → getD (f .came) i 0 ≡ 0 → length (f .blocks) < m
-  searched-room {f} i s l e = let n = s .entries in let r = marked-room (f .came) i (omega arith) e in let c = s .counted in omega arith
+  searched-room {f} i s l e = let n = s .entries in let r = nonZeros-room (f .came) i (omega arith) e in let c = s .counted in omega arith

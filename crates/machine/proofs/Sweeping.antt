@@ -1,5 +1,6 @@
 -- Laws of the sweep's steps, and of the steps that begin and end marking.
 --     begin-empty, begin-root       the two ways of a cycle's beginning
+--     turn-skips, turn-sweeps       the two ways of marking's end
 --     advance-end, advance-on       the two ways of the position
 --     reclaim-full, reclaim-done    the two ways of freeing
 -- Assumes nothing.
@@ -12,11 +13,11 @@ use Rattle.machine.specs.declared.Regs.{Regs}
 use Rattle.machine.specs.declared.Colour.the-variants.{White, Free}
 use Rattle.machine.specs.declared.Step.the-variants.{Reclaim}
 use Rattle.machine.specs.declared.Progress.the-variants.{Done, Damaged}
-use Rattle.machine.specs.Registers.{idle, marking, withPhase, withGrey, withFree, withCount, withPosition, withCycle, nextCycle, sweepEnd}
+use Rattle.machine.specs.Registers.{idle, marking, sweeping, withPhase, withGrey, withFree, withCount, withPosition, withCycle, nextCycle, sweepEnd}
 use Rattle.machine.specs.Block.{withEight, freeWords, clearByte}
 use Rattle.machine.specs.Colouring.{Colouring, coloured, painted, toGrey}
 use Rattle.machine.specs.Heap.{heap}
-use Rattle.machine.specs.OneUnit.{begun, advance, reclaimed, whitened, act, ended}
+use Rattle.machine.specs.OneUnit.{begun, turnedRegs, turned, advance, reclaimed, whitened, act, ended}
 
 module _ (r : Regs) (ws cs bs : List ℕ) where
   pub begin-empty : {n : ℕ} → n ≡ nextCycle (r .cycle) → r .root ≡ 0 → heap (withPhase marking (withCycle n r)) ws cs bs ≡ begun (heap r ws cs bs)
@@ -27,6 +28,14 @@ module _ (r : Regs) (ws cs bs : List ℕ) where
       → heap (withGrey (k .head) (withPhase marking (withCycle n r))) ws (k .cells) bs ≡ begun (heap r ws cs bs)
   unfolding begun
   begin-root e z g = rw (e, g) (simp (ne-eqb (r .root) 0 z))
+
+  pub turn-skips : {n : ℕ} → n ≡ sweepEnd r → n ≡ 1 → heap (withPosition 0 (withPhase idle r)) ws cs bs ≡ turned (heap r ws cs bs)
+  unfolding turned turnedRegs
+  turn-skips e z = simp (eq-eqb (sweepEnd r) 1 (sym e ∙ z))
+
+  pub turn-sweeps : {n : ℕ} → n ≡ sweepEnd r → n ≢ 1 → heap (withPosition 2 (withPhase sweeping r)) ws cs bs ≡ turned (heap r ws cs bs)
+  unfolding turned turnedRegs
+  turn-sweeps e z = simp (ne-eqb (sweepEnd r) 1 (λ q. z (e ∙ q)))
 
   pub reclaim-full : r .count ≡ r .blocks → ended r Damaged ws cs bs ≡ act Reclaim (heap r ws cs bs)
   unfolding act ended

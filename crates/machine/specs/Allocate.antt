@@ -12,7 +12,7 @@ use lib.ListN.{set}
 use Rattle.machine.specs.declared.Regs.{Regs}
 use Rattle.machine.specs.Tests.{if_then_else_, _▷_}
 use Rattle.machine.specs.Rounding.{roundedUp}
-use Rattle.machine.specs.Registers.{withFree, withCount, withRoot}
+use Rattle.machine.specs.Registers.{withFree, withCount, withRoot, raised}
 use Rattle.machine.specs.Block.{place, wordOf}
 use Rattle.machine.specs.Colouring.{isFree, painted}
 use Rattle.machine.specs.Heap.{Heap, heap, colouring, withRegs}
@@ -38,11 +38,11 @@ listRefusal h =
     if eqb (h .regs .count) 0 then 8 else
     if firstFits h then 0 else 8
 
--- "takes the first free block, zeroes word 0"
+-- "takes the first free block, zeroes word 0"; "the highest block number handed out since format"
 unfoldable pub taken : Heap → Heap
 taken h =
     heap
-    (withCount (h .regs .count - 1) (withFree (wordOf (h .words) (h .regs .free) 0) (h .regs)))
+    (raised (h .regs .free) (withCount (h .regs .count - 1) (withFree (wordOf (h .words) (h .regs .free) 0) (h .regs))))
     (set (h .words) (place (h .regs .free) 0) 0)
     (painted (h .regs .free) (newColour (h .regs) (h .regs .free)) (colouring h) .cells)
     (h .bytes)

@@ -3,7 +3,8 @@
 -- exactly them.
 --     layoutPasses k       the colour layout's own part: legal colours, and the grey list has exactly the grey blocks
 --     mayName r k strict x     x is 0 or a live block, and where strict not a white one
---     blockPasses h b      what asks only for a block's state, its words and its byte
+--     markPasses r k b     b isn't above the mark, or is free
+--     blockPasses h b      that, and what asks only for a block's state, its words and its byte
 --     freesPass r ws k     the free list has exactly the free blocks, free count of them
 --     passes h             all of these
 --     audit h              the call: 1 for a well-formed heap, else 0
@@ -11,7 +12,7 @@
 use Prim.Native.Nat.{ℕ, zero, suc, _+_}
 use mathlib.Core.Bool.{Bool, true, false, _&&_, _||_, not}
 use mathlib.Core.List.{List, [], _∷_}
-use lib.Dec.{eqb}
+use lib.Dec.{eqb, leb}
 use lib.ListN.{getD}
 use Rattle.machine.specs.declared.Regs.{Regs}
 use Rattle.machine.specs.declared.Colour.{Colour}
@@ -73,9 +74,14 @@ statePasses r k part byte b Black = mayBeBlack r b && mayNameAll r k (eqb (r .ph
 statePasses r k part byte b Free = eqb byte 0 && zeroFrom 7 1 part
 statePasses r k part byte b Outside = false
 
+-- "The audit also asks that blocks above the mark be free."
+unfoldable pub markPasses : Regs → Colouring → ℕ → Bool
+markPasses r k b = leb b (r .mark) || isFree k b
+
 unfoldable pub blockPasses : Heap → ℕ → Bool
 blockPasses h b =
-    statePasses (h .regs) (colouring h) (eightWords (h .words) b) (byteOf (h .bytes) b) b (stateOf h b)
+    markPasses (h .regs) (colouring h) b
+    && statePasses (h .regs) (colouring h) (eightWords (h .words) b) (byteOf (h .bytes) b) b (stateOf h b)
 
 -- "the free list ends, has exactly the free blocks .. and free count of them"
 unfoldable pub freesPass : Regs → List ℕ → Colouring → Bool

@@ -1,4 +1,5 @@
 -- "Checked by hand": the cases of document 01 that are marked P, as one table under one statement.
+-- Cases 4 to 8 are worked out afresh, with the same inputs, as document 02's request L7 asks: the sweep now ends after the mark.
 -- A case is a list of calls on lent buffers of the right lengths, what is looked at after them (what one more call gives, or how many
 -- units the calls of a cycle answer in all), and what document 01 says stands there.
 --     lent m               registers and buffers as a host lends them for m blocks, all 0
@@ -83,24 +84,37 @@ table =
     ∷ on 3 (Format 3 1 ∷ Allocate 0 0 ∷ []) (Allocate 2 0)
     (λ g. answer g ++ colourWord g 3 ∷ regs g .phase ∷ regs g .position ∷ [])
     (0 ∷ 3 ∷ 1 ∷ black ∷ 2 ∷ 2 ∷ [])
-    -- 4. Then Work 3: blocks 2 and 3 white, phase 0. The cycle took 5 units.
+    -- 4. Then Work 3: blocks 2 and 3 are white after two units, and the cycle took 4; the third begins the next: phase 1, cycle 2, block 2
+    -- grey.
     ∷ on 3 (Format 3 1 ∷ Allocate 0 0 ∷ Allocate 2 0 ∷ []) (Work 3)
-    (λ g. answer g ++ colourWord g 2 ∷ colourWord g 3 ∷ regs g .phase ∷ [])
-    (0 ∷ 0 ∷ 3 ∷ white ∷ white ∷ 0 ∷ [])
-    ∷ cycle 3 (Format 3 1 ∷ []) (Allocate 0 0 ∷ Allocate 2 0 ∷ Work 3 ∷ []) 5
-    -- 5. Then store 0 as reference at (2, 0), Work 4: position 3. Block 3 is doomed: Read answers 5.
-    ∷ on 3 (toCase4 ++ StoreReference 2 0 0 ∷ []) (Work 4) (λ g. answer g ++ regs g .position ∷ []) (0 ∷ 0 ∷ 4 ∷ 3 ∷ [])
+    (λ g. answer g ++ colourWord g 2 ∷ colourWord g 3 ∷ regs g .phase ∷ regs g .cycle ∷ regs g .grey ∷ [])
+    (0 ∷ 0 ∷ 3 ∷ 1 ∷ white ∷ 1 ∷ 2 ∷ 2 ∷ [])
+    ∷ cycle 3 (Format 3 1 ∷ []) (Allocate 0 0 ∷ Allocate 2 0 ∷ Work 2 ∷ []) 4
+    -- 5. Then store 0 as reference at (2, 0), Work 4: block 2 is white, block 3 is free, and the collector idle; the cycle took 5 units.
+    -- Read of block 3 answers 5.
+    ∷ on 3 (toCase4 ++ StoreReference 2 0 0 ∷ []) (Work 4)
+    (λ g. answer g ++ colourWord g 2 ∷ colourWord g 3 ∷ regs g .phase ∷ regs g .position ∷ regs g .cycle ∷ [])
+    (0 ∷ 0 ∷ 4 ∷ white ∷ freed ∷ 0 ∷ 0 ∷ 2 ∷ [])
+    ∷ cycle 3 (Format 3 1 ∷ Allocate 0 0 ∷ Allocate 2 0 ∷ Work 2 ∷ []) (Work 1 ∷ StoreReference 2 0 0 ∷ Work 4 ∷ []) 5
     ∷ on 3 toCase5 (Read 3 0) answer (5 ∷ 0 ∷ 0 ∷ [])
+    -- With Work 3 in place of Work 4: position 3. Block 3 is doomed: Read answers 5, and a store of target 3 at (2, 1) answers 6.
+    ∷ on 3 (toCase4 ++ StoreReference 2 0 0 ∷ []) (Work 3) (λ g. answer g ++ regs g .phase ∷ regs g .position ∷ []) (0 ∷ 0 ∷ 3 ∷ 2 ∷ 3 ∷ [])
+    ∷ on 3 (toCase4 ++ StoreReference 2 0 0 ∷ Work 3 ∷ []) (Read 3 0) answer (5 ∷ 0 ∷ 0 ∷ [])
+    ∷ on 3 (toCase4 ++ StoreReference 2 0 0 ∷ Work 3 ∷ []) (StoreReference 2 1 3) answer (6 ∷ 0 ∷ 0 ∷ [])
     -- 6. There, a store of target 3 at (2, 1) answers 6.
     ∷ on 3 toCase5 (StoreReference 2 1 3) answer (6 ∷ 0 ∷ 0 ∷ [])
-    -- 7. There, Work 1: block 3 is free, its word 0 is 4, free head 3, free count 2. Work 1 more: idle, 6 units in the cycle.
+    -- 7. There, Work 1: block 3 is free, its word 0 is 4, free head 3, free count 2; the next cycle has begun: phase 1, cycle 3, block 2
+    -- grey. Work 1 more: block 2 is black and no block is grey.
     ∷ on 3 toCase5 (Work 1)
-    (λ g. answer g ++ colourWord g 3 ∷ wordZeroIn g 3 ∷ regs g .free ∷ regs g .count ∷ [])
-    (0 ∷ 0 ∷ 1 ∷ freed ∷ 4 ∷ 3 ∷ 2 ∷ [])
-    ∷ on 3 (toCase5 ++ Work 1 ∷ []) (Work 1) (λ g. answer g ++ regs g .phase ∷ []) (0 ∷ 0 ∷ 1 ∷ 0 ∷ [])
-    ∷ cycle 3 (toCase4 ++ StoreReference 2 0 0 ∷ []) (Work 4 ∷ Work 1 ∷ Work 1 ∷ []) 6
-    -- 8. From 4: Work 1, store 0 as reference at (2, 0), Work 1, store reference 3 at (2, 1): 3 has colour 1 and is the grey head.
+    (λ g. answer g ++ colourWord g 3 ∷ wordZeroIn g 3 ∷ regs g .free ∷ regs g .count ∷ regs g .phase ∷ regs g .cycle ∷ regs g .grey ∷ [])
+    (0 ∷ 0 ∷ 1 ∷ freed ∷ 4 ∷ 3 ∷ 2 ∷ 1 ∷ 3 ∷ 2 ∷ [])
+    ∷ on 3 (toCase5 ++ Work 1 ∷ []) (Work 1) (λ g. answer g ++ colourWord g 2 ∷ regs g .grey ∷ regs g .phase ∷ []) (0 ∷ 0 ∷ 1 ∷ black ∷ 1 ∷ 1 ∷ [])
+    -- 8. From 4: Work 1, store 0 as reference at (2, 0), Work 1, store reference 3 at (2, 1): block 3 was marked in between, is black, and
+    -- no block is grey. Without the first Work 1, block 3 is white when it is stored: it has colour 1 and is the grey head.
     ∷ on 3 (toCase4 ++ Work 1 ∷ StoreReference 2 0 0 ∷ Work 1 ∷ []) (StoreReference 2 1 3)
+    (λ g. answer g ++ colourWord g 3 ∷ regs g .grey ∷ [])
+    (0 ∷ 0 ∷ 0 ∷ black ∷ 1 ∷ [])
+    ∷ on 3 (toCase4 ++ StoreReference 2 0 0 ∷ Work 1 ∷ []) (StoreReference 2 1 3)
     (λ g. answer g ++ colourWord g 3 ∷ regs g .grey ∷ [])
     (0 ∷ 0 ∷ 0 ∷ 1 ∷ 3 ∷ [])
     -- 9. Format(1, 1), Allocate at root, Allocate at (2, 0): 7 with 1 unit, phase 2.

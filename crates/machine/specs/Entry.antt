@@ -7,7 +7,7 @@
 --     holderPlace m b w    refusal 3 for Allocate, which also takes 0, 0 for the root
 --     targetPlace m t      refusal 4
 -- Assumes nothing.
-use Prim.Native.Nat.{ℕ, _*_}
+use Prim.Native.Nat.{ℕ, _+_, _*_}
 use mathlib.Core.Bool.{Bool, _&&_, _||_}
 use lib.Dec.{leb, eqb}
 use lib.ListN.{length}
@@ -36,20 +36,25 @@ heapFits h = fits (h .regs .blocks) (h .regs .pace) (length (h .words)) (length 
 unfoldable pub isBlockOrNone : ℕ → ℕ → Bool
 isBlockOrNone m b = eqb b 0 || isBlock m b
 
--- "position is 2 to M + 1 while sweeping, else 0"
+-- "a mark outside 1 to M + 1"
+unfoldable pub markLegal : Regs → Bool
+markLegal r = leb 1 (r .mark) && leb (r .mark) (r .blocks + 1)
+
+-- "position is 2 to M + 1 while sweeping, else 0"; "a position above the mark while sweeping"
 unfoldable pub positionLegal : Regs → Bool
 positionLegal r =
     if eqb (r .phase) sweeping then leb 2 (r .position) && leb (r .position) (sweepEnd r) else eqb (r .position) 0
 
 -- "Registers are legal when: phase is at most 2; grey head is 1, or while marking 1 or a block; free head and root are 0 or a block;
--- free count is at most M; position is 2 to M + 1 while sweeping, else 0. Any cycle number is legal."
+-- free count is at most M; position is 2 to M + 1 while sweeping, else 0. Any cycle number is legal." "2 also covers a mark outside 1 to
+-- M + 1, and a position above the mark while sweeping."
 unfoldable pub legal : Regs → Bool
 legal r =
     leb (r .phase) 2
     && (headLegal (r .blocks) (r .phase) (r .grey)
     && (isBlockOrNone (r .blocks) (r .free)
     && (isBlockOrNone (r .blocks) (r .root)
-    && (leb (r .count) (r .blocks) && positionLegal r))))
+    && (leb (r .count) (r .blocks) && (markLegal r && positionLegal r)))))
 
 -- 1: "M, U or a buffer length does not fit"; 2: "registers not legal"
 unfoldable pub entry : Heap → ℕ

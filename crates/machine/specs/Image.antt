@@ -2,21 +2,25 @@
 -- "four sections in a fixed order, each after its count, reference bytes as single bytes and all else as 32-bit numbers, little-endian"
 --     four n                   the four bytes of a number, the lowest first
 --     numbers xs, singles xs   a section of 32-bit numbers, and one of single bytes
---     registersOf r, regsOf xs     the registers in the order of document 01, and the record that has them
---     encode h                 the image of the heap h
+--     registersOf r, regsOf xs     the registers in the order of document 01, then the mark, and the record that has them
+--     registerCount, earlierCount     how many registers an image has, and how many it may have besides
+--     encode h                 the image of the heap h;     encodeWith n h   with its first n registers;     encodeBlocks h   behind them
 --     number i                 the number that the bytes i begin with
 --     numbersIn i, singlesIn i     what the section at the front of i holds
 --     pastNumbers i, pastSingles i     the bytes behind that section
+--     coloursIn j, bytesIn j, wordsIn j     what the sections j behind the registers hold
+--     heapIn r j               the heap with the registers r and what those sections hold
 --     decode i                 the heap whose image the bytes i would be
 --     isImage i                they are the image of a heap that the audit accepts, with nothing after it
 --     Below m xs, InRange h    numbers below m; a heap whose numbers are 32-bit numbers and bytes, as in a host's memory
 -- Assumes nothing.
 use Prim.Native.Nat.{ℕ, zero, suc, _+_, _*_, _/_, _%_, _^_, _<_}
-use mathlib.Core.Bool.{Bool, true, false, _&&_}
+use mathlib.Core.Bool.{Bool, true, false, _&&_, _||_}
 use mathlib.Core.List.{List, [], _∷_, _++_}
 use lib.Dec.{eqb}
 use lib.ListN.{getD, length, take, drop}
 use Rattle.machine.specs.declared.Regs.{Regs}
+use Rattle.machine.specs.Tests.{if_then_else_}
 use Rattle.machine.specs.Heap.{Heap, heap}
 use Rattle.machine.specs.Audit.{passes}
 
@@ -34,10 +38,19 @@ numbers xs = four (length xs) ++ foursOf xs
 abbrev pub singles : List ℕ → List ℕ
 singles xs = four (length xs) ++ xs
 
--- "registers (count 9, in the order of document 01)"
+-- "registers (count 9, in the order of document 01)"; "Images gain the register as tenth"
 abbrev pub registersOf : Regs → List ℕ
-registersOf r = r .blocks ∷ r .pace ∷ r .phase ∷ r .grey ∷ r .free ∷ r .count ∷ r .position ∷ r .root ∷ r .cycle ∷ []
+registersOf r =
+    r .blocks ∷ r .pace ∷ r .phase ∷ r .grey ∷ r .free ∷ r .count ∷ r .position ∷ r .root ∷ r .cycle ∷ r .mark ∷ []
 
+-- how many registers an image has, and how many one had before there was a mark
+abbrev pub registerCount : ℕ
+registerCount = 10
+
+abbrev pub earlierCount : ℕ
+earlierCount = 9
+
+-- "those with nine are read with the mark at M + 1"
 abbrev pub regsOf : List ℕ → Regs
 regsOf xs =
     record {
@@ -50,11 +63,20 @@ regsOf xs =
       position = getD xs 6 0;
       root = getD xs 7 0;
       cycle = getD xs 8 0;
+      mark = if eqb (length xs) earlierCount then getD xs 0 0 + 1 else getD xs 9 0;
     }
 
+-- "colours (M), reference bytes (M), words (8M)", behind the registers
+unfoldable pub encodeBlocks : Heap → List ℕ
+encodeBlocks h = numbers (h .colours) ++ (singles (h .bytes) ++ numbers (h .words))
+
+-- the image with the first n registers
+unfoldable pub encodeWith : ℕ → Heap → List ℕ
+encodeWith n h = numbers (take n (registersOf (h .regs))) ++ encodeBlocks h
+
 -- "registers .., colours (M), reference bytes (M), words (8M)"
-unfoldable pub encode : Heap → List ℕ
-encode h = numbers (registersOf (h .regs)) ++ (numbers (h .colours) ++ (singles (h .bytes) ++ numbers (h .words)))
+abbrev pub encode : Heap → List ℕ
+encode h = encodeWith registerCount h
 
 unfoldable pub number : List ℕ → ℕ
 number i = getD i 0 0 + 256 * getD i 1 0 + 65536 * getD i 2 0 + 16777216 * getD i 3 0
@@ -75,14 +97,21 @@ pastNumbers i = drop (4 + 4 * number i) i
 abbrev pub pastSingles : List ℕ → List ℕ
 pastSingles i = drop (4 + number i) i
 
--- registers, colours, reference bytes, words
+-- "colours (M), reference bytes (M), words (8M)"
+unfoldable pub coloursIn : List ℕ → List ℕ
+coloursIn j = numbersIn j
+
+unfoldable pub bytesIn : List ℕ → List ℕ
+bytesIn j = singlesIn (pastNumbers j)
+
+unfoldable pub wordsIn : List ℕ → List ℕ
+wordsIn j = numbersIn (pastSingles (pastNumbers j))
+
+abbrev pub heapIn : Regs → List ℕ → Heap
+heapIn r j = heap r (wordsIn j) (coloursIn j) (bytesIn j)
+
 unfoldable pub decode : List ℕ → Heap
-decode i =
-    heap
-    (regsOf (numbersIn i))
-    (numbersIn (pastSingles (pastNumbers (pastNumbers i))))
-    (numbersIn (pastNumbers i))
-    (singlesIn (pastNumbers (pastNumbers i)))
+decode i = heapIn (regsOf (numbersIn i)) (pastNumbers i)
 
 unfoldable pub sameList : List ℕ → List ℕ → Bool
 sameList [] [] = true
@@ -90,9 +119,13 @@ sameList [] (y ∷ ys) = false
 sameList (x ∷ xs) [] = false
 sameList (x ∷ xs) (y ∷ ys) = eqb x y && sameList xs ys
 
+-- "Images gain the register as tenth; those with nine are read"
+unfoldable pub countKnown : ℕ → Bool
+countKnown n = eqb n registerCount || eqb n earlierCount
+
 -- "reading accepts only such an image with nothing after it"
 unfoldable pub isImage : List ℕ → Bool
-isImage i = sameList (encode (decode i)) i && passes (decode i)
+isImage i = countKnown (number i) && (sameList (encodeWith (number i) (decode i)) i && passes (decode i))
 
 -- past the end of a list getD answers 0
 abbrev pub Below : ℕ → List ℕ → Type 0

@@ -2,6 +2,7 @@
 --     allFrom p n b, countFrom p n b     p holds of n blocks from b on; of how many of them it holds
 --     walk p next end n a  n steps from a on, by next, meet only what p holds of, and lead to end
 --     Listed next end a l  from a on, by next, the list is l and ends at end
+--     Distinct l           no number stands twice in l
 --     Exactly P next end a the list from a on ends, and has exactly the blocks of which P holds
 -- Assumes nothing.
 use Prim.Native.Nat.{ℕ, zero, suc, _+_}
@@ -32,3 +33,7 @@ pub record Exactly (P : ℕ → Type 0) (next : ℕ → ℕ) (end a : ℕ) : Typ
   pub blocks : List ℕ
   pub listed : Listed next end a blocks
   pub members : (b : ℕ) → List·Memᴰ b blocks ↔ P b
+
+pub data Distinct : List ℕ → Type 0 where
+  empty : Distinct []
+  more : {a : ℕ} {l : List ℕ} → (List·Memᴰ a l → ⊥) → Distinct l → Distinct (a ∷ l)

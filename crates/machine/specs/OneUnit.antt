@@ -91,11 +91,14 @@ unfoldable pub allSound : Colouring → List ℕ → Bool
 allSound k [] = true
 allSound k (b ∷ bs) = sound k b && allSound k bs
 
--- "Marking, grey list empty: phase 2, position 2."
-unfoldable pub turned : Heap → Heap
-turned h = withRegs (withPosition 2 (withPhase sweeping (h .regs))) h
+-- "Marking, grey list empty: phase 2, position 2." "The sweep ends after that block, and straight away at the turn when there is none."
+unfoldable pub turnedRegs : Regs → Regs
+turnedRegs r = if eqb (sweepEnd r) 1 then withPosition 0 (withPhase idle r) else withPosition 2 (withPhase sweeping r)
 
--- "Position plus one; after M + 1, phase 0 and position 0."
+unfoldable pub turned : Heap → Heap
+turned h = withRegs (turnedRegs (h .regs)) h
+
+-- "Position plus one; after M + 1, phase 0 and position 0.": after the mark
 unfoldable pub advance : Regs → Regs
 advance r =
     if eqb (r .position) (sweepEnd r) then withPosition 0 (withPhase idle r) else withPosition (r .position + 1) r

@@ -1,7 +1,7 @@
 -- What tests 1 and 2 establish, as facts about numbers: what the functions below the calls ask of their caller.
 --     Ready h              the heap h passes tests 1 and 2
 -- Assumes nothing.
-use Prim.Native.Nat.{_*_, _≤_}
+use Prim.Native.Nat.{_+_, _*_, _≤_}
 use mathlib.Core.Path.{_≡_}
 use mathlib.Core.Logic.{_≢_}
 use mathlib.Core.Bool.{true}
@@ -23,5 +23,6 @@ pub record Ready (h : Heap) : Type 0 where
   pub free : h .regs .free ≢ 0 → Block (h .regs .blocks) (h .regs .free)
   pub root : h .regs .root ≢ 0 → Block (h .regs .blocks) (h .regs .root)
   pub count : h .regs .count ≤ h .regs .blocks
+  pub marked : (1 ≤ h .regs .mark) × (h .regs .mark ≤ h .regs .blocks + 1)
   pub placed : h .regs .phase ≡ sweeping → (2 ≤ h .regs .position) × (h .regs .position ≤ sweepEnd (h .regs))
   pub parked : h .regs .phase ≢ sweeping → h .regs .position ≡ 0

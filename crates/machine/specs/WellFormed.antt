@@ -65,6 +65,8 @@ pub record WellFormed (h : Heap) : Type 0 where
   pub blackless : h .regs .phase ≡ idle → (b : ℕ) → Coloured h Black b → ⊥
   -- "while sweeping no block below the position is black"
   pub swept : h .regs .phase ≡ sweeping → (b : ℕ) → Coloured h Black b → b < h .regs .position → ⊥
+  -- "blocks above the mark be free"
+  pub unused : (b : ℕ) → Block (h .regs .blocks) b → h .regs .mark < b → Coloured h Free b
   -- "while marking the root is not white and no black block names a white one"
   pub rootMarked : h .regs .phase ≡ marking → Coloured h White (h .regs .root) → ⊥
   pub namedMarked : h .regs .phase ≡ marking → (b x : ℕ) → Coloured h Black b → Names h b x → Coloured h White x → ⊥

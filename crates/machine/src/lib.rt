@@ -27,8 +27,10 @@ pub const MARKING: u32 = 1;
 
 pub const SWEEPING: u32 = 2;
 
-// The end of the grey list, and the first block.
+// The end of the grey list, the mark when no block was handed out, and the first block.
 pub const NO_GREY: u32 = 1;
+
+pub const NONE_USED: u32 = 1;
 
 pub const FIRST: u32 = 2;
 
@@ -88,7 +90,7 @@ pub const WHY_REACHABLE: u32 = 3;
 
 pub const WHY_KEPT: u32 = 4;
 
-// The register record, in document 01's order.
+// The register record, in document 01's order, then the mark: the highest block handed out since format.
 #[repr(C)]
 pub struct Regs {
     pub blocks: u32,
@@ -100,6 +102,7 @@ pub struct Regs {
     pub position: u32,
     pub root: u32,
     pub cycle: u32,
+    pub mark: u32,
 }
 
 // The registers with the grey head g.
@@ -116,6 +119,7 @@ pub fn with_grey(r: Regs, g: u32) -> Regs
         position: r.position,
         root: r.root,
         cycle: r.cycle,
+        mark: r.mark,
     }
 }
 

@@ -17,7 +17,7 @@ ghost use Rattle.machine.specs.Block.{isBlock};
 ghost use Rattle.machine.specs.Heap.{heap};
 ghost use Rattle.machine.specs.Colouring.{CellsFit, headLegal};
 ghost use Rattle.machine.specs.State.{refusalOf, holderRefusal, targetRefusal};
-ghost use Rattle.machine.specs.Entry.{numbersFit, lengthsFit, fits, isBlockOrNone, positionLegal, legal, entry, wordRefusal, holderPlace, targetPlace};
+ghost use Rattle.machine.specs.Entry.{numbersFit, lengthsFit, fits, isBlockOrNone, markLegal, positionLegal, legal, entry, wordRefusal, holderPlace, targetPlace};
 ghost use Rattle.machine.specs.Read.{readRefusal};
 ghost use Rattle.machine.specs.Answers.{given, answering, refuse, done};
 
@@ -66,12 +66,11 @@ fn marking_legal(m: u32, g: u32, position: u32) -> bool
     position == 0 && (g == machine::NO_GREY || part_colours::is_block(m, g))
 }
 
-// The same while sweeping.
-fn sweeping_legal(m: u32, g: u32, position: u32) -> bool
-    requires { ⌜ m ≤ 16384 ⌝ }
-    ensures { λ x. ⌜ x ≡ (eqb g 1 && isBlock m position) ⌝ }
+// The same while sweeping, up to the block last.
+fn sweeping_legal(last: u32, g: u32, position: u32) -> bool
+    ensures { λ x. ⌜ x ≡ (eqb g 1 && (leb 2 position && leb position last)) ⌝ }
 {
-    g == machine::NO_GREY && part_colours::is_block(m, position)
+    g == machine::NO_GREY && (machine::FIRST <= position && position <= last)
 }
 
 // Whether the phase is legal, and the grey head and the position in it.
@@ -83,9 +82,17 @@ pub fn phase_legal(r: Regs) -> bool
     match phase {
         machine::IDLE => idle_legal(r.grey, r.position),
         machine::MARKING => marking_legal(r.blocks, r.grey, r.position),
-        machine::SWEEPING => sweeping_legal(r.blocks, r.grey, r.position),
+        machine::SWEEPING => sweeping_legal(r.mark, r.grey, r.position),
         _ => false,
     }
+}
+
+// Whether the mark is legal.
+fn mark_legal(r: Regs) -> bool
+    requires { ⌜ r .blocks ≤ 16384 ⌝ }
+    ensures { λ x. ⌜ x ≡ markLegal r ⌝ }
+{
+    1 <= r.mark && r.mark <= r.blocks + 1
 }
 
 // Whether the registers are legal. The order of the tests is the cheapest one: they have one refusal number.
@@ -94,8 +101,9 @@ pub fn legal(r: Regs) -> bool
     ensures { λ x. ⌜ x ≡ legal r ⌝ }
 {
     r.count <= r.blocks
-        && (phase_legal(r)
-            && (is_block_or_none(r.blocks, r.free) && is_block_or_none(r.blocks, r.root)))
+        && (mark_legal(r)
+            && (phase_legal(r)
+                && (is_block_or_none(r.blocks, r.free) && is_block_or_none(r.blocks, r.root))))
 }
 
 // Refusals 1 and 2.

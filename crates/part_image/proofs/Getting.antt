@@ -1,6 +1,5 @@
 -- Laws of the loops that fill a buffer from an image.
 --     filled-all                   all is filled
---     registers-read               nine numbers read one after another are the registers
 --     fours-more                   one number more
 --     bytes-more                   one byte more
 -- Assumes nothing.
@@ -11,8 +10,7 @@ use native.Mathlib.Numerals.{add-one}
 use native.Mathlib.Omega.{arith}
 use lib.ListN.{length, getD, take, drop, set, length-drop, drop-of-length-le}
 use lib.Seq.{length-take-le, take-suc, drop-cons, drop-drop, getD-drop, set-at}
-use Rattle.machine.specs.Image.{number, numbersFrom, regsOf}
-use Rattle.machine.specs.Frame.{registerCount}
+use Rattle.machine.specs.Image.{number, numbersFrom}
 use Rattle.machine.proofs.Fours.{from-length}
 
 -- one element more of a list that is filled from the front
@@ -48,11 +46,3 @@ module _ (at k : ℕ) (i to : List ℕ) {now : List ℕ} (l : k < length to) whe
       let s : take (k + 1) (drop at i) ≡ take k (drop at i) ++ (getD i (at + k) 0 ∷ []) =
       rw (add-one k, take-suc (drop at i) k 0 n, getD-drop) refl in
       rw s g
-
-pub registers-read : (i : List ℕ) {a b c d e f g h j : ℕ}
-    → a ≡ number (drop 4 i) → b ≡ number (drop 8 i) → c ≡ number (drop 12 i)
-    → d ≡ number (drop 16 i) → e ≡ number (drop 20 i) → f ≡ number (drop 24 i)
-    → g ≡ number (drop 28 i) → h ≡ number (drop 32 i) → j ≡ number (drop 36 i)
-    → regsOf (a ∷ b ∷ c ∷ d ∷ e ∷ f ∷ g ∷ h ∷ j ∷ []) ≡ regsOf (numbersFrom registerCount (drop 4 i))
-unfolding numbersFrom
-registers-read i ea eb ec ed ee ef eg eh ej = rw (ea, eb, ec, ed, ee, ef, eg, eh, ej) (simp drop-drop)

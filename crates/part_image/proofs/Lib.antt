@@ -1,4 +1,4 @@
--- Laws of bytes written into others and of the loops that write them, of an image's counts, and of the loops that read it.
+-- Laws of bytes written into others and of the loops that write them, of the loops that read an image, and of its counts and registers.
 pub mod Placing
-pub mod Counting
 pub mod Getting
+pub mod Framing

@@ -1,3 +1,2 @@
--- What the code that reads and writes images says of bytes.
+-- What the code that writes images says of bytes.
 pub mod Placing
-pub mod Counting

@@ -1,67 +1,63 @@
--- Laws of the heap that an image holds, its registers read.
---     held i r             that heap, its registers being r
---     framed-long          an image has room for its registers
---     regs-read, first-read     its registers are those, and M among them
---     held-fits            it fits where its numbers do
---     held-laid            where it fits, the bytes are laid out as an image
+-- Laws of the heap that an image holds.
+--     held-numbers         it fits where its M and U do
+--     held-most            then M is at most 16,384, as get_registers asks
+--     held-as              it has the registers of the image and the sections behind them
+--     held-laid            where it fits, those sections are laid out as such
 --     held-entry           it passes tests 1 and 2 where it fits and its registers are legal
---     held-passes          it passes as what the image decodes to does
 --     unfit-off, illegal-off     a heap that fails test 1 or 2 doesn't pass
 -- Assumes nothing.
 use Prim.Native.Nat.{ℕ, _≤_}
-use mathlib.Core.Path.{_≡_, refl, sym, _∙_, ap}
+use mathlib.Core.Path.{_≡_, refl, sym}
 use mathlib.Core.Bool.{Bool, true, false}
 use mathlib.Core.List.{List}
 use native.Mathlib.Omega.{arith}
-use lib.ListN.{length, drop}
+use lib.ListN.{length}
 use borrow.Author.Tests.{eq-eqb}
 use Rattle.machine.specs.declared.Regs.{Regs}
-use Rattle.machine.specs.Heap.{Heap, heap}
+use Rattle.machine.specs.Heap.{Heap}
 use Rattle.machine.specs.Entry.{numbersFit, lengthsFit, heapFits, legal, entry}
 use Rattle.machine.specs.Audit.{passes}
-use Rattle.machine.specs.Image.{numbersFrom, regsOf, decode}
-use Rattle.machine.specs.Frame.{registerCount, coloursAt, at, framed}
+use Rattle.machine.specs.Image.{pastNumbers, coloursIn, bytesIn, wordsIn, heapIn, decode}
+use Rattle.machine.specs.Frame.{at, framed}
 use Rattle.machine.proofs.Entering.{fits-lengths}
 use Rattle.machine.proofs.Refusals.{fits-most, unfit, illegal, entered}
 use Rattle.machine.proofs.Passing.{entry-no}
-use Rattle.machine.proofs.Frames.{framed-frame, decode-placed, regs-placed, lengths-placed}
+use Rattle.machine.proofs.Frames.{blocks-frame, lengths-placed, framed-blocks, regs-placed}
 use Rattle.part_image_lists.specs.Laid.{Laid}
 
-abbrev pub held : List ℕ → Regs → Heap
-held i r = heap r (decode i .words) (decode i .colours) (decode i .bytes)
+module _ (i : List ℕ) (f : framed i ≡ true) where
+  abbrev j : List ℕ
+  j = pastNumbers i
 
--- the registers are there
-pub framed-long : (i : List ℕ) → framed i ≡ true → coloursAt ≤ length i
-framed-long i f = omega (arith, framed-frame i f .whole)
-
-module _ (i : List ℕ) {r : Regs} (f : framed i ≡ true) (e : r ≡ regsOf (numbersFrom registerCount (drop 4 i))) where
-  pub regs-read : r ≡ decode i .regs
-  regs-read = rw (decode-placed i (framed-frame i f)) e
-
-  pub first-read : at i 4 ≡ r .blocks
-  first-read = sym (ap (λ (x : Regs). x .blocks) regs-read ∙ ap (λ (x : Regs). x .blocks) (regs-placed i (framed-frame i f)))
-
-  lengths-read : lengthsFit (r .blocks) (length (decode i .words)) (length (decode i .colours)) (length (decode i .bytes)) ≡ true
+  lengths-read : lengthsFit (at i 4) (length (wordsIn j)) (length (coloursIn j)) (length (bytesIn j)) ≡ true
   unfolding lengthsFit
   lengths-read =
-      let l = rw first-read at (lengths-placed i (framed-frame i f)) in
+      let l = lengths-placed (blocks-frame (framed-blocks i f)) in
       simp (eq-eqb _ _ (l .0), eq-eqb _ _ (l .1), eq-eqb _ _ (l .2))
 
-  pub held-fits : {t : Bool} → t ≡ numbersFit (r .blocks) (r .pace) → t ≡ heapFits (held i r)
-  held-fits n = fits-lengths (r .blocks) (r .pace) _ _ _ lengths-read n
+  pub held-as : {r : Regs} {part : List ℕ} → r ≡ decode i .regs → part ≡ j → heapIn r part ≡ decode i
+  unfolding decode
+  held-as e p = rw (e, p) refl
 
-  pub held-laid : heapFits (held i r) ≡ true → Laid (r .blocks) i
-  held-laid h = record { whole = f; first = first-read; most = fits-most _ _ _ _ _ h }
+  pub held-numbers : {t : Bool} {m u : ℕ} → m ≡ at i 4 → u ≡ at i 8 → t ≡ numbersFit m u → t ≡ heapFits (decode i)
+  held-numbers {t} {m} {u} e g n =
+      rw (← held-as refl refl, regs-placed i f, ← e, ← g) (fits-lengths m u _ _ _ (rw e lengths-read) n)
 
-  pub held-entry : heapFits (held i r) ≡ true → legal r ≡ true → entry (held i r) ≡ 0
-  held-entry h l = sym (entered (held i r) h l)
+  module _ (h : heapFits (decode i) ≡ true) where
+    pub held-most : at i 4 ≤ 16384
+    held-most = let m = fits-most _ _ _ _ _ h in rw (regs-placed i f) at m
 
-  pub held-passes : {t : Bool} → t ≡ passes (held i r) → t ≡ passes (decode i)
-  held-passes p = let g : held i r ≡ decode i = rw regs-read refl in p ∙ ap passes g
+    module _ {r : Regs} {part : List ℕ} (e : r ≡ decode i .regs) (p : part ≡ j) where
+      pub held-laid : Laid (r .blocks) part
+      held-laid =
+          rw (e, p, regs-placed i f) (record { whole = framed-blocks i f; most = held-most })
+
+      pub held-entry : legal r ≡ true → entry (heapIn r part) ≡ 0
+      held-entry l = rw (held-as e p) (sym (entered (decode i) h (rw e at l)))
 
 module _ (h : Heap) where
   pub unfit-off : heapFits h ≡ false → false ≡ passes h
   unfit-off f = entry-no h (λ z. omega (arith, unfit h f, z))
 
-  pub illegal-off : heapFits h ≡ true → legal (h .regs) ≡ false → false ≡ passes h
-  illegal-off f l = entry-no h (λ z. omega (arith, illegal h f l, z))
+  pub illegal-off : heapFits h ≡ true → {r : Regs} → r ≡ h .regs → legal r ≡ false → false ≡ passes h
+  illegal-off f e l = entry-no h (λ z. omega (arith, illegal h f (rw e at l), z))

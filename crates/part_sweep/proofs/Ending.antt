@@ -36,11 +36,11 @@ module _ (r : Regs) where
   unfolding settled
   settled-not n = simp (ne-eqb (r .position) (sweepEnd r + 1) n)
 
-pub stepped : (r q : Regs) {s : Regs} → s ≡ withPosition (q .position + 1) q → q .position ≡ r .position → q .blocks ≡ r .blocks → q .phase ≡ r .phase
+pub stepped : (r q : Regs) {s : Regs} → s ≡ withPosition (q .position + 1) q → q .position ≡ r .position → q .mark ≡ r .mark → q .phase ≡ r .phase
     → Onward r (Done s)
 stepped r q e a b d = rw e (ap (λ (x : ℕ). x + 1) a, b, d)
 
-pub goes-on : (r s : Regs) {p : Progress} → Onward r p → p ≡ Done s → (s .position ≡ r .position + 1) × (s .blocks ≡ r .blocks) × (s .phase ≡ r .phase)
+pub goes-on : (r s : Regs) {p : Progress} → Onward r p → p ≡ Done s → (s .position ≡ r .position + 1) × (s .mark ≡ r .mark) × (s .phase ≡ r .phase)
 goes-on r s o q = subst (Onward r) q o
 
 -- a the position, e the sweep's end, k units

@@ -32,7 +32,7 @@ pub record Swept (n last : ℕ) (h : Heap) (r s : Regs) (ws cs bs : List ℕ) : 
   pub from : r .position ≤ s .position
   pub to : s .position ≤ last
   pub stops : Within (r .position) (sweepEnd r) n last
-  pub blocks : s .blocks ≡ r .blocks
+  pub mark : s .mark ≡ r .mark
   pub phase : s .phase ≡ sweeping
   pub ready : Ready (heap (settled s) ws cs bs)
   pub whole : (i : ℕ) → run n i h ≡ run (n - (s .position - r .position)) (i + (s .position - r .position)) (heap (settled s) ws cs bs)
@@ -60,7 +60,7 @@ swept-first n last r ws cs bs d s w =
       from = omega arith;
       to = omega arith;
       stops = w;
-      blocks = refl;
+      mark = refl;
       phase = s;
       ready = subst (λ (x : Regs). Ready (heap x ws cs bs)) e d;
       whole = λ i.
@@ -91,7 +91,7 @@ module _ (n last : ℕ) (h : Heap) (r s : Regs) (ws cs bs : List ℕ) (d : Swept
         let w = d .stops in
         let t = d .to in
         let e = w .inside in
-        let b = d .blocks in
+        let b = d .mark in
         settled-not s (λ z. o (omega arith))
 
     pub here-ready : Ready (heap s ws cs bs)
@@ -128,7 +128,7 @@ module _ (n last : ℕ) (h : Heap) (r s : Regs) (ws cs bs : List ℕ) (d : Swept
             from = omega arith;
             to = omega (arith, o);
             stops = d .stops;
-            blocks = k .1 ∙ d .blocks;
+            mark = k .1 ∙ d .mark;
             phase = k .2 ∙ d .phase;
             ready = done-kept (heap s ws cs bs) here-ready s (settled t) ws′ cs′ bs′ (settling p) u (ap settling q);
             whole = loop-on h n s ws cs bs _ _ here-whole ws′ cs′ bs′ u (settled t) (ap settling q) _ _

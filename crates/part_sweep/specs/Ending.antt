@@ -1,8 +1,8 @@
 -- The end of a sweep, met behind the last unit of a row. Within the row each unit moves the position on by one, past the sweep's last
--- block too; "after M + 1, phase 0 and position 0" is done once, behind it.
+-- block too; "after M + 1, phase 0 and position 0", which is now after the mark, is done once, behind it.
 --     settled r            the registers r, with a sweep that has gone past its last block ended
 --     settling p           the same of what a unit answers
---     Onward r p           where the unit is done, the position has gone on by one; M and the phase stay
+--     Onward r p           where the unit is done, the position has gone on by one; the mark and the phase stay
 -- Assumes nothing.
 use Prim.Native.Nat.{_+_}
 use mathlib.Core.Path.{_≡_}
@@ -21,5 +21,5 @@ settling (Done s) = Done (settled s)
 settling Damaged = Damaged
 
 abbrev pub Onward : Regs → Progress → Type 0
-Onward r (Done s) = (s .position ≡ r .position + 1) × (s .blocks ≡ r .blocks) × (s .phase ≡ r .phase)
+Onward r (Done s) = (s .position ≡ r .position + 1) × (s .mark ≡ r .mark) × (s .phase ≡ r .phase)
 Onward r Damaged = Unit {0}

@@ -21,17 +21,16 @@ ghost use Rattle.machine.specs.OneUnit.{whitened, act, unit, ended};
 ghost use Rattle.part_step.specs.Going.{Went};
 ghost use Rattle.part_sweep.specs.Ending.{settled, settling, Onward};
 
-// The last block that a sweep reaches.
+// The last block that a sweep reaches: the mark.
 pub fn sweep_end(r: Regs) -> u32
-    requires { ⌜ r .blocks ≤ 16384 ⌝ }
     ensures { λ b. ⌜ b ≡ sweepEnd r ⌝ }
 {
-    r.blocks + 1
+    r.mark
 }
 
 // The position goes on by one, past the sweep's last block too.
 pub fn onward(r: Regs) -> Regs
-    requires { ⌜ (r .blocks ≤ 16384) × (r .position ≤ sweepEnd r) ⌝ }
+    requires { ⌜ r .position ≤ 16385 ⌝ }
     ensures { λ s. ⌜ s ≡ withPosition (r .position + 1) r ⌝ }
 {
     let mut s = r;
@@ -41,7 +40,7 @@ pub fn onward(r: Regs) -> Regs
 
 // A sweep that has gone past its last block has ended.
 pub fn settled(r: Regs) -> Regs
-    requires { ⌜ r .blocks ≤ 16384 ⌝ }
+    requires { ⌜ sweepEnd r ≤ 16385 ⌝ }
     ensures { λ s. ⌜ s ≡ settled r ⌝ }
 {
     let mut s = r;
@@ -54,7 +53,7 @@ pub fn settled(r: Regs) -> Regs
 
 // Where the position stands once k units are done, or the sweep has gone past its last block.
 pub fn stop(r: Regs, k: u32) -> u32
-    requires { ⌜ (r .blocks ≤ 16384) × (r .position ≤ sweepEnd r) ⌝ }
+    requires { ⌜ (sweepEnd r ≤ 16385) × (r .position ≤ sweepEnd r) ⌝ }
     ensures { λ p. ⌜ p ≡ (if ltb k (sweepEnd r + 1 - r .position) then r .position + k else sweepEnd r + 1) ⌝ }
 {
     let past = sweep_end(r) + 1;

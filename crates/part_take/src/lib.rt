@@ -3,7 +3,7 @@ use machine::Regs;
 ghost use mathlib.Core.Path.{_≡_};
 ghost use mathlib.Core.Logic.{_≢_};
 ghost use mathlib.Core.List.{List};
-ghost use Prim.Native.Nat.{ℕ, _≤_, _*_};
+ghost use Prim.Native.Nat.{ℕ, _≤_, _*_, max};
 ghost use lib.ListN.{length};
 ghost use Rattle.machine.specs.WellFormed.{Block};
 ghost use Rattle.machine.specs.Colouring.{CellsFit};
@@ -41,7 +41,18 @@ pub fn list_refusal(r: Regs, words: &[u32], colours: &[u32]) -> u32
     machine::DAMAGE
 }
 
-// The first free block is taken off the free list, its word 0 zeroed, and coloured. Answers the registers afterwards.
+// The mark once the block b is handed out.
+fn raised(mark: u32, b: u32) -> u32
+    ensures { λ x. ⌜ x ≡ max mark b ⌝ }
+{
+    if mark < b {
+        return b;
+    }
+    mark
+}
+
+// The first free block is taken off the free list, its word 0 zeroed, and coloured; the mark is raised to it. Answers the registers
+// afterwards.
 pub fn take(r: Regs, words: &mut [u32], colours: &mut [u32]) -> Regs
     requires { ⌜ (length (now words) ≡ 8 * r .blocks) × CellsFit (r .blocks) (now colours) × Block (r .blocks) (r .free) × (1 ≤ r .count) ⌝ }
     ensures { λ s. ⌜ ((bs : List ℕ) → heap s (now (words .exit)) (now (colours .exit)) bs ≡ taken (heap r (now (words .entry)) (now (colours .entry)) bs)) ⌝ }
@@ -50,6 +61,7 @@ pub fn take(r: Regs, words: &mut [u32], colours: &mut [u32]) -> Regs
     let mut s = r;
     s.free = words[at];
     s.count = r.count - 1;
+    s.mark = raised(r.mark, r.free);
     words[at] = 0;
     let c = part_state::new_colour(r.phase, r.position, r.free);
     part_colours::paint(colours, r.free, c);

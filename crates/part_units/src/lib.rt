@@ -38,11 +38,16 @@ pub fn begin(r: Regs, colours: &mut [u32]) -> Regs
     s
 }
 
-// Marking, with no grey block left: the sweep begins.
+// Marking, with no grey block left: the sweep begins, or where no block was ever handed out the cycle ends.
 pub fn turn(r: Regs) -> Regs
     ensures { λ s. ⌜ ((ws cs bs : List ℕ) → heap s ws cs bs ≡ turned (heap r ws cs bs)) ⌝ }
 {
     let mut s = r;
+    if part_sweep::sweep_end(r) == machine::NONE_USED {
+        s.phase = machine::IDLE;
+        s.position = 0;
+        return s;
+    }
     s.phase = machine::SWEEPING;
     s.position = machine::FIRST;
     s

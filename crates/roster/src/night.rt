@@ -65,6 +65,7 @@ fn fresh() -> Night {
         position: 0,
         root: 0,
         cycle: 0,
+        mark: 0,
     };
     Night {
         regs: zero,

@@ -1,5 +1,5 @@
-// Reading a case: a line LETTER x y z lw lc lb M U phase grey free count position root cycle, then lw words, lc colours and lb bytes,
-// each number after a space.
+// Reading a case: a line LETTER x y z lw lc lb M U phase grey free count position root cycle mark, then lw words, lc colours and lb
+// bytes, each number after a space.
 use super::heaps;
 use machine::Regs;
 use text_commands::Command;
@@ -88,7 +88,7 @@ pub(crate) fn fills(
 }
 
 // The call among the case's first numbers.
-fn asked_of(letter: u8, heads: &[u32; 15]) -> Asked {
+fn asked_of(letter: u8, heads: &[u32; 16]) -> Asked {
     Asked {
         letter: letter,
         x: heads[0],
@@ -98,7 +98,7 @@ fn asked_of(letter: u8, heads: &[u32; 15]) -> Asked {
 }
 
 // The registers among the case's first numbers.
-fn regs_of(heads: &[u32; 15]) -> Regs {
+fn regs_of(heads: &[u32; 16]) -> Regs {
     Regs {
         blocks: heads[6],
         pace: heads[7],
@@ -109,6 +109,7 @@ fn regs_of(heads: &[u32; 15]) -> Regs {
         position: heads[12],
         root: heads[13],
         cycle: heads[14],
+        mark: heads[15],
     }
 }
 
@@ -117,7 +118,7 @@ fn size(x: u32) -> usize {
     x as usize
 }
 
-// The first fifteen numbers of a case, where they stand there. No place of the lent buffers is written.
+// The first sixteen numbers of a case, where they stand there. No place of the lent buffers is written.
 pub(crate) fn read_head(text: &[u8], colours: &mut [u32], bytes: &mut [u8]) -> Head {
     if 1200 < text.len() {
         return Head::Broken;
@@ -125,8 +126,8 @@ pub(crate) fn read_head(text: &[u8], colours: &mut [u32], bytes: &mut [u8]) -> H
     if text.len() == 0 {
         return Head::Broken;
     }
-    let mut heads = [0u32; 15];
-    let Filled::To(at) = fill(text, 1, &mut heads, &mut colours[..0], &mut bytes[..0], 15) else {
+    let mut heads = [0u32; 16];
+    let Filled::To(at) = fill(text, 1, &mut heads, &mut colours[..0], &mut bytes[..0], 16) else {
         return Head::Broken;
     };
     let a = asked_of(text[0], &heads);

@@ -51,7 +51,7 @@ fn held(words: &[u32], colours: &[u32], bytes: &[u8], i: usize) -> u32 {
     0
 }
 
-// The number i of what is said: the answer's three, then the nine registers, 0 past them.
+// The number i of what is said: the answer's three, then the ten registers, 0 past them.
 fn told(s: Said, i: usize) -> u32 {
     let r = s.regs;
     match i {
@@ -67,16 +67,17 @@ fn told(s: Said, i: usize) -> u32 {
         9 => r.position,
         10 => r.root,
         11 => r.cycle,
+        12 => r.mark,
         _ => 0,
     }
 }
 
 // The number i of a line: what is said, then the heap.
 fn number(s: Said, words: &[u32], colours: &[u32], bytes: &[u8], i: usize) -> u32 {
-    if i < 12 {
+    if i < 13 {
         return told(s, i);
     }
-    held(words, colours, bytes, i - 12)
+    held(words, colours, bytes, i - 13)
 }
 
 // Puts the answer and the whole heap, which has so many numbers, as a line.
@@ -91,7 +92,7 @@ pub(crate) fn put(
 ) -> Output
     requires { ⌜ count ≤ 80 ⌝ }
 {
-    let last = 11 + count;
+    let last = 12 + count;
     let mut p = o;
     let mut i = 0;
     while i < last {

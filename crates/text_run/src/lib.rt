@@ -22,6 +22,7 @@ fn fresh() -> Regs {
         position: 0,
         root: 0,
         cycle: 0,
+        mark: 0,
     }
 }
 

@@ -5,23 +5,28 @@
 --     black-holds, holds-black     black: it may be, and all that it names is 0 or live, and while marking not white
 --     free-holds, holds-free       free: laid out as a free block
 --     outside-fails                no colour outside the layout
--- A block is asked for its colour only.
+--     mark-holds                   above the mark: free
+-- A block is asked for its colour, and unless it is free for being at or below the mark.
 -- Assumes nothing.
-use Prim.Native.Nat.{ℕ}
-use mathlib.Core.Path.{_≡_, refl, sym, _∙_}
+use Prim.Native.Nat.{ℕ, _≤_, _<_}
+use mathlib.Core.Path.{_≡_, refl, sym, _∙_, ap}
+use mathlib.Core.Logic.{⊎-elim}
 use mathlib.Core.Bool.{Bool, true, false}
 use native.Mathlib.Omega.{arith}
-use lib.Dec.{eqb}
-use borrow.Author.Tests.{eqb-true, eq-eqb}
+use lib.Dec.{eqb, leb}
+use borrow.Author.Tests.{eqb-true, eq-eqb, leb-true}
 use Rattle.machine.specs.declared.Colour.{Colour}
 use Rattle.machine.specs.declared.Colour.the-variants.{White, Grey, Black, Free, Outside}
 use Rattle.machine.specs.Registers.{marking}
 use Rattle.machine.specs.Block.{byteOf, eightWords}
+use Rattle.machine.specs.Colouring.{freeColour, isFree}
 use Rattle.machine.specs.Heap.{Heap, colouring, colourOf, referencesOf}
 use Rattle.machine.specs.State.{ahead, stateFrom, stateIn, mayBeBlack}
-use Rattle.machine.specs.Audit.{mayNameAll, zeroFrom, statePasses, blockPasses}
+use Rattle.machine.specs.Audit.{mayNameAll, zeroFrom, statePasses, markPasses, blockPasses}
 use Rattle.machine.specs.WellFormed.{Names, LaidOut}
-use Rattle.machine.proofs.Tests.{both-true, both, by-test, clash}
+use Rattle.machine.proofs.Tests.{both-true, both, either-true, by-test, clash}
+use Rattle.machine.proofs.Hues.{tests-free}
+use Rattle.machine.proofs.Passing.{mark-low, mark-free}
 use Rattle.theory_audit.proofs.Words.{part-word, zero-holds, holds-zero}
 use Rattle.theory_audit.proofs.Naming.{MayName, names-hold, hold-names}
 
@@ -32,11 +37,24 @@ module _ (h : Heap) (b : ℕ) where
 
   as-coloured : (c : Colour) → colourOf h b ≡ c → blockPasses h b ≡ true → testAs c ≡ true
   unfolding blockPasses stateIn
-  as-coloured c e t = rw e at t
+  as-coloured c e t = rw e at (both-true (markPasses (h .regs) (colouring h) b) _ t .1)
 
-  coloured-as : (c : Colour) → colourOf h b ≡ c → testAs c ≡ true → blockPasses h b ≡ true
+  abbrev Used : Type 0
+  Used = b ≤ h .regs .mark
+
+  coloured-used : (c : Colour) → colourOf h b ≡ c → Used → testAs c ≡ true → blockPasses h b ≡ true
   unfolding blockPasses stateIn
-  coloured-as c e t = rw e t
+  coloured-used c e u t = sym (mark-low (h .regs) (colouring h) b _ u) ∙ rw e t
+
+  coloured-free : colourOf h b ≡ Free → testAs Free ≡ true → blockPasses h b ≡ true
+  unfolding blockPasses stateIn
+  coloured-free e t = sym (mark-free (h .regs) (colouring h) b _ (ap freeColour e)) ∙ rw e t
+
+  pub mark-holds : blockPasses h b ≡ true → h .regs .mark < b → colourOf h b ≡ Free
+  unfolding blockPasses markPasses
+  mark-holds t l =
+      ⊎-elim (λ m. absurd (let g = leb-true b (h .regs .mark) m in omega arith)) (λ f. tests-free _ f)
+      (either-true (leb b (h .regs .mark)) (isFree (colouring h) b) (both-true (markPasses (h .regs) (colouring h) b) _ t .0))
 
   abbrev pub NamesWell : Bool → Type 0
   NamesWell strict = (x : ℕ) → Names h b x → MayName h strict x
@@ -45,10 +63,10 @@ module _ (h : Heap) (b : ℕ) where
   unfolding statePasses stateFrom
   white-holds e t d = names-hold h false b (rw d at (as-coloured White e t))
 
-  pub holds-white : colourOf h b ≡ White → (ahead (h .regs) b ≡ false → NamesWell false) → blockPasses h b ≡ true
+  pub holds-white : colourOf h b ≡ White → Used → (ahead (h .regs) b ≡ false → NamesWell false) → blockPasses h b ≡ true
   unfolding statePasses stateFrom
-  holds-white e f =
-      coloured-as White e (by-test (ahead (h .regs) b) (λ d. rw d refl) (λ d. rw d (hold-names h false b (f d))))
+  holds-white e u f =
+      coloured-used White e u (by-test (ahead (h .regs) b) (λ d. rw d refl) (λ d. rw d (hold-names h false b (f d))))
 
   pub grey-holds : colourOf h b ≡ Grey → blockPasses h b ≡ true → (h .regs .phase ≡ marking) × NamesWell false
   unfolding statePasses stateFrom
@@ -56,9 +74,9 @@ module _ (h : Heap) (b : ℕ) where
       let s = both-true (eqb (h .regs .phase) marking) (mayNameAll (h .regs) (colouring h) false (referencesOf h b)) (as-coloured Grey e t) in
       (eqb-true (h .regs .phase) marking (s .0), names-hold h false b (s .1))
 
-  pub holds-grey : colourOf h b ≡ Grey → h .regs .phase ≡ marking → NamesWell false → blockPasses h b ≡ true
+  pub holds-grey : colourOf h b ≡ Grey → Used → h .regs .phase ≡ marking → NamesWell false → blockPasses h b ≡ true
   unfolding statePasses stateFrom
-  holds-grey e m f = coloured-as Grey e (both (eq-eqb (h .regs .phase) marking m) (hold-names h false b f))
+  holds-grey e u m f = coloured-used Grey e u (both (eq-eqb (h .regs .phase) marking m) (hold-names h false b f))
 
   pub black-holds : colourOf h b ≡ Black → blockPasses h b ≡ true → (mayBeBlack (h .regs) b ≡ true) × NamesWell (eqb (h .regs .phase) marking)
   unfolding statePasses stateFrom
@@ -67,9 +85,9 @@ module _ (h : Heap) (b : ℕ) where
       let s = both-true (mayBeBlack (h .regs) b) (mayNameAll (h .regs) (colouring h) strict (referencesOf h b)) (as-coloured Black e t) in
       (s .0, names-hold h strict b (s .1))
 
-  pub holds-black : colourOf h b ≡ Black → mayBeBlack (h .regs) b ≡ true → NamesWell (eqb (h .regs .phase) marking) → blockPasses h b ≡ true
+  pub holds-black : colourOf h b ≡ Black → Used → mayBeBlack (h .regs) b ≡ true → NamesWell (eqb (h .regs .phase) marking) → blockPasses h b ≡ true
   unfolding statePasses stateFrom
-  holds-black e m f = coloured-as Black e (both m (hold-names h (eqb (h .regs .phase) marking) b f))
+  holds-black e u m f = coloured-used Black e u (both m (hold-names h (eqb (h .regs .phase) marking) b f))
 
   pub free-holds : colourOf h b ≡ Free → blockPasses h b ≡ true → LaidOut h b
   unfolding statePasses stateFrom
@@ -83,7 +101,7 @@ module _ (h : Heap) (b : ℕ) where
   pub holds-free : colourOf h b ≡ Free → LaidOut h b → blockPasses h b ≡ true
   unfolding statePasses stateFrom
   holds-free e l =
-      coloured-as Free e
+      coloured-free e
       (both (eq-eqb (byteOf (h .bytes) b) 0 (l .byte))
       (holds-zero (eightWords (h .words) b) 7 1 (λ w k g. part-word (h .words) b w (omega arith) ∙ l .words w k (omega arith))))
 

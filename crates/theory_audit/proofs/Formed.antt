@@ -4,7 +4,7 @@
 -- Each block is looked at by its colour, once each way. Nothing here says how colours are kept or how the grey list is linked.
 -- Assumes nothing.
 use Prim.Native.Nat.{ℕ, _≤_}
-use mathlib.Core.Path.{_≡_, refl}
+use mathlib.Core.Path.{_≡_, refl, ap, _∙_}
 use mathlib.Core.Logic.{_≢_}
 use mathlib.Core.Bool.{true, false}
 use native.Mathlib.Omega.{arith}
@@ -14,6 +14,7 @@ use Rattle.machine.specs.declared.Colour.{Colour}
 use Rattle.machine.specs.declared.Colour.the-variants.{White, Grey, Black, Free, Outside}
 use Rattle.machine.specs.Tests.{if_then_else_, _▷_}
 use Rattle.machine.specs.Registers.{marking, sweeping}
+use Rattle.machine.specs.Colouring.{freeColour}
 use Rattle.machine.specs.Heap.{Heap, colouring, colourOf}
 use Rattle.machine.specs.State.{stateOf, isLive}
 use Rattle.machine.specs.Entry.{heapFits, legal, entry}
@@ -25,7 +26,7 @@ use Rattle.machine.proofs.Counting.{all-holds, holds-all}
 use Rattle.machine.proofs.States.{white-live, grey-live, black-live, live-white, live-colour, black-not-idle, black-ahead, may-be-black}
 use Rattle.machine.proofs.Linked.{linked}
 use Rattle.theory_audit.proofs.Naming.{name-holds, holds-name}
-use Rattle.theory_audit.proofs.ByColour.{NamesWell, white-holds, holds-white, grey-holds, holds-grey, black-holds, holds-black, free-holds, holds-free, outside-fails}
+use Rattle.theory_audit.proofs.ByColour.{NamesWell, white-holds, holds-white, grey-holds, holds-grey, black-holds, holds-black, free-holds, holds-free, outside-fails, mark-holds}
 use Rattle.theory_audit.proofs.Frees.{frees-hold, hold-frees}
 use Rattle.theory_audit.proofs.ColourLayout.{layout-holds, hold-layout}
 
@@ -81,6 +82,7 @@ module _ (h : Heap) where
         greyless = λ n b c. n (grey-holds h b (c .colour) (pass b (c .block)) .0);
         blackless = λ z b c. black-not-idle (h .regs) b (black-holds h b (c .colour) (pass b (c .block)) .0) z;
         swept = λ s b c g. let l = black-ahead (h .regs) b (black-holds h b (c .colour) (pass b (c .block)) .0) s in omega arith;
+        unused = λ b l g. record { block = l; colour = mark-holds h b (pass b l) g };
         rootMarked = λ m c. r .marked (eq-eqb (h .regs .phase) marking m) c;
         namedMarked = λ m b x c v w. black-holds h b (c .colour) (pass b (c .block)) .1 x v .marked (eq-eqb (h .regs .phase) marking m) w;
         rootLive = r .alive;
@@ -110,14 +112,20 @@ module _ (h : Heap) where
             by-test (leb (h .regs .position) b) (λ t. leb-true (h .regs .position) b t)
             (λ t. absurd (f .swept s b c (leb-false (h .regs .position) b t)))
 
+        -- a block that isn't free is at or below the mark
+        used : {c : Colour} → colourOf h b ≡ c → freeColour c ≡ false → b ≤ h .regs .mark
+        used e n =
+            by-test (leb b (h .regs .mark)) (λ t. leb-true b (h .regs .mark) t)
+            (λ t. let u = f .unused b l (leb-false b (h .regs .mark) t) in clash (ap freeColour (u .colour)) (ap freeColour e ∙ n))
+
         go : (c : Colour) → colourOf h b ≡ c → blockPasses h b ≡ true
-        go White e = holds-white h b e (λ d. names-live b (alive (white-live (h .regs) (colouring h) b e d)))
+        go White e = holds-white h b e (used e refl) (λ d. names-live b (alive (white-live (h .regs) (colouring h) b e d)))
         go Grey e =
-            by-eq (h .regs .phase) marking (λ m. holds-grey h b e m (names-live b (alive (grey-live (h .regs) (colouring h) b e))))
+            by-eq (h .regs .phase) marking (λ m. holds-grey h b e (used e refl) m (names-live b (alive (grey-live (h .regs) (colouring h) b e))))
             (λ n. absurd (f .greyless n b (record { block = l; colour = e })))
         go Black e =
             let c : Coloured h Black b = record { block = l; colour = e } in
-            holds-black h b e
+            holds-black h b e (used e refl)
             (may-be-black (h .regs) b (tests-ready h (f .fitting) (f .registers) .phase) (λ z. f .blackless z b c) (ahead c))
             (names-marked b c (alive (black-live (h .regs) (colouring h) b e)))
         go Free e = holds-free h b e (f .laid b (record { block = l; colour = e }))

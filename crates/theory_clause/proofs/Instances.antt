@@ -50,7 +50,7 @@ record Computed : Type 0 where
   holds : wordOf (night .words) (night .regs .root) 1 ≡ 3
   free : night .regs .count ≡ 3
   given : lastOf (Allocate 2 7 ∷ Allocate 2 7 ∷ Work 30 ∷ Allocate 2 7 ∷ Allocate 2 7 ∷ Work 30 ∷ []) (Allocate 2 7) night .answer .refusal ≡ 0
-  cycles : (night .regs .cycle ≡ 1) × (session busy night .regs .cycle ≡ 6)
+  cycles : (night .regs .cycle ≡ 1) × (session busy night .regs .cycle ≡ 7)
   before : export 3 0 night buffer ≡ complete 2 (rows 88)
   stored : lastOf busy (StoreNumber 4 1 99) night .answer .refusal ≡ 0
   differs : export 3 0 (session (busy ++ StoreNumber 4 1 99 ∷ []) night) buffer ≡ complete 2 (rows 99)

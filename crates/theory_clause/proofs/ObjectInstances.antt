@@ -47,7 +47,7 @@ record Computed : Type 0 where
   holds : wordOf (dusk .words) (dusk .regs .root) 1 ≡ 3
   free : dusk .regs .count ≡ 3
   given : lastOf (take 6 busy) (Allocate 2 7) dusk .answer .refusal ≡ 0
-  cycles : (dusk .regs .cycle ≡ 1) × (session busy dusk .regs .cycle ≡ 5)
+  cycles : (dusk .regs .cycle ≡ 2) × (session busy dusk .regs .cycle ≡ 6)
   fit : rowFits 8 0 ≡ true
   before : exportObjects 3 8 0 dusk buffer ≡ complete 2 (fields 80)
   stored : lastOf busy (StoreNumber 6 0 99) dusk .answer .refusal ≡ 0

@@ -50,7 +50,7 @@ pub record Lasts : Type 0 where
   -- three blocks were free, and the session's fifth allocation is given one
   pub free : night .regs .count ≡ 3
   pub given : lastOf (Allocate 2 7 ∷ Allocate 2 7 ∷ Work 30 ∷ Allocate 2 7 ∷ Allocate 2 7 ∷ Work 30 ∷ []) (Allocate 2 7) night .answer .refusal ≡ 0
-  pub cycles : (night .regs .cycle ≡ 1) × (session busy night .regs .cycle ≡ 6)
+  pub cycles : (night .regs .cycle ≡ 1) × (session busy night .regs .cycle ≡ 7)
   pub before : export 3 0 night buffer ≡ complete 2 (rows 88)
   pub lasts : SameList (oneBlock 0) night (session busy night) 3 (3 ∷ 4 ∷ [])
   pub after : export 3 0 (session busy night) buffer ≡ complete 2 (rows 88)

@@ -46,7 +46,7 @@ pub record ObjectsStay : Type 0 where
   -- three blocks were free, and the session's fifth allocation is given one
   pub free : dusk .regs .count ≡ 3
   pub given : lastOf (take 6 busy) (Allocate 2 7) dusk .answer .refusal ≡ 0
-  pub cycles : (dusk .regs .cycle ≡ 1) × (session busy dusk .regs .cycle ≡ 5)
+  pub cycles : (dusk .regs .cycle ≡ 2) × (session busy dusk .regs .cycle ≡ 6)
   pub before : exportObjects 3 8 0 dusk buffer ≡ complete 2 (fields 80)
   pub lasts : SameList (objects 8 0) dusk (session busy dusk) 3 (3 ∷ 5 ∷ [])
   pub after : exportObjects 3 8 0 (session busy dusk) buffer ≡ complete 2 (fields 80)

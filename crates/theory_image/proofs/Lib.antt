@@ -1,3 +1,4 @@
--- What saving and loading a heap promise, proved, and an instance.
+-- What saving and loading a heap promise, proved, and instances.
 pub mod Images
+pub mod Topped
 pub mod Instances

@@ -47,7 +47,7 @@ word n vs = vcons (vint w32 n) vs
 abbrev cells : Regs → Vals
 cells r =
     word (r .blocks) (word (r .pace) (word (r .phase) (word (r .grey) (word (r .free) (word (r .count) (word (r .position)
-    (word (r .root) (word (r .cycle) vnil))))))))
+    (word (r .root) (word (r .cycle) (word (r .mark) vnil)))))))))
 
 abbrev pub the-record : Regs → Val
 the-record = LL.val R.the-type R′.the-laws

@@ -5,7 +5,7 @@
 --     acts-begin, acts-mark     none begins a cycle, none marks
 --     joined-taken         the blocks that two runs joined take
 -- Assumes nothing.
-use Prim.Native.Nat.{ℕ, _+_, _≤_}
+use Prim.Native.Nat.{ℕ, _+_}
 use mathlib.Core.Path.{_≡_, refl, sym, _∙_}
 use mathlib.Core.Logic.{_≢_, inl, inr}
 use native.Mathlib.Omega.{arith}
@@ -15,10 +15,10 @@ use Rattle.theory_reach.proofs.Splits.{never}
 use Rattle.theory_moves.specs.Tints.{Free}
 use Rattle.theory_moves.specs.Heaps.{Abs, Live}
 use Rattle.theory_moves.specs.Moves.{Move, begin, mark, turn, sweep, writeNumber, writeRef, setRoot, takeHeld, takeRoot}
-use Rattle.theory_moves.specs.Kinds.{cost, marked}
+use Rattle.theory_moves.specs.Kinds.{cost}
 use Rattle.theory_moves.specs.Runs.{WritesIn, Run, rest, step, joined, units, marks, begins, taken}
 use Rattle.theory_moves.specs.Demand2.{SameCell}
-use Rattle.theory_moves.proofs.ByKind.{begun-cost}
+use Rattle.theory_moves.proofs.ByKind.{kind-cost}
 use Rattle.theory_moves.proofs.Mutating.{Mutation, tinted-kept, tinted-live, number-mutation, ref-mutation, root-mutation, held-mutation, taken-mutation}
 use Rattle.theory_moves.proofs.Safety.{cells-kept}
 
@@ -33,17 +33,6 @@ act-changes (writeRef b w t m) e = (t, ref-mutation b w t m)
 act-changes (setRoot t m) e = (t, root-mutation t m)
 act-changes (takeHeld x b w m) e = (x, held-mutation x b w m)
 act-changes (takeRoot x m) e = (x, taken-mutation x m)
-
-marked-cost : {M : ℕ} {h k : Abs} (m : Move M h k) → marked m ≤ cost m
-marked-cost (begin m) = omega arith
-marked-cost (mark b m) = omega arith
-marked-cost (turn m) = omega arith
-marked-cost (sweep m) = omega arith
-marked-cost (writeNumber b w v m) = omega arith
-marked-cost (writeRef b w t m) = omega arith
-marked-cost (setRoot t m) = omega arith
-marked-cost (takeHeld x b w m) = omega arith
-marked-cost (takeRoot x m) = omega arith
 
 module _ {M : ℕ} where
   act-live : {h k : Abs} (m : Move M h k) → cost m ≡ 0 → {b : ℕ} → Live M h b → Live M k b
@@ -65,11 +54,11 @@ module _ {M : ℕ} where
 
   pub acts-begin : {h k : Abs} (r : Run M h k) → units r ≡ 0 → begins r ≡ 0
   acts-begin rest z = refl
-  acts-begin (step m r) z = omega (arith, begun-cost m, acts-begin r (omega arith))
+  acts-begin (step m r) z = omega (arith, kind-cost m, acts-begin r (omega arith))
 
   pub acts-mark : {h k : Abs} (r : Run M h k) → units r ≡ 0 → marks r ≡ 0
   acts-mark rest z = refl
-  acts-mark (step m r) z = omega (arith, marked-cost m, acts-mark r (omega arith))
+  acts-mark (step m r) z = omega (arith, kind-cost m, acts-mark r (omega arith))
 
   pub joined-taken : {h i k : Abs} (r : Run M h i) (s : Run M i k) → length (taken (joined r s)) ≡ length (taken r) + length (taken s)
   joined-taken rest s = omega arith

@@ -14,7 +14,7 @@ use mathlib.Core.Logic.{_≢_}
 use native.Mathlib.Omega.{arith}
 use Rattle.theory_reach.specs.Reaching.{at-root, along}
 use Rattle.theory_reach.specs.Sums.{Block}
-use Rattle.theory_reach.proofs.Splits.{never, by-eq}
+use Rattle.theory_reach.proofs.Splits.{by-eq}
 use Rattle.theory_reach.proofs.Reaching.{reach-closed}
 use Rattle.theory_moves.specs.Tints.{Free}
 use Rattle.theory_moves.specs.Heaps.{Abs, idle, named, ref, Reached, Live, Sound}
@@ -23,7 +23,7 @@ use Rattle.theory_moves.specs.Kinds.{begun, ended}
 use Rattle.theory_moves.specs.Runs.{Run, rest, step, ends, Proper, ProperRun, FreedIn, freed-later}
 use Rattle.theory_moves.specs.Demand2.{GarbageWaits}
 use Rattle.theory_moves.proofs.Tints.{by-free}
-use Rattle.theory_moves.proofs.ByKind.{begins?, ended-idle, ended-one}
+use Rattle.theory_moves.proofs.ByKind.{begins?, cost-one, kind-cost, ended-idle, idle-ended, stays-idle}
 use Rattle.theory_moves.proofs.Runs.{frees-now}
 use Rattle.theory_moves.proofs.Mutating.{Mutation, number-mutation, ref-mutation, root-mutation, held-mutation, taken-mutation}
 use Rattle.theory_moves.proofs.Soundness.{move-sound}
@@ -76,30 +76,6 @@ module _ {M : ℕ} {h k : Abs} (s : Sound M h) where
 waits-begun : {M : ℕ} {S : ℕ → Type 0} {g : ℕ} {h k : Abs} → Waiting M S g h → (m : Move M h k) → begun m ≡ 0
 waits-begun w m = begins? m (λ b. absurd (waits-not (b .before) w)) (λ e. e)
 
--- a move that is no beginning leaves an idle collector idle
-stays-idle : {M : ℕ} {h k : Abs} → h .phase ≡ idle → (m : Move M h k) → begun m ≡ 0 → k .phase ≡ idle
-stays-idle i (begin m) e = never (sym e)
-stays-idle i (mark b m) e = absurd (omega (arith, m .before))
-stays-idle i (turn m) e = absurd (omega (arith, m .before))
-stays-idle i (sweep m) e = absurd (omega (arith, m .before))
-stays-idle i (writeNumber b w v m) e = m .steady .phase ∙ i
-stays-idle i (writeRef b w t m) e = m .steady .phase ∙ i
-stays-idle i (setRoot t m) e = m .steady .phase ∙ i
-stays-idle i (takeHeld x b w m) e = m .steady .phase ∙ i
-stays-idle i (takeRoot x m) e = m .steady .phase ∙ i
-
--- no cycle ends when idle
-idle-ended : {M : ℕ} {h k : Abs} → h .phase ≡ idle → (m : Move M h k) → ended m ≡ 0
-idle-ended i (begin m) = refl
-idle-ended i (mark b m) = refl
-idle-ended i (turn m) = refl
-idle-ended i (sweep m) = absurd (omega (arith, m .before))
-idle-ended i (writeNumber b w v m) = refl
-idle-ended i (writeRef b w t m) = refl
-idle-ended i (setRoot t m) = refl
-idle-ended i (takeHeld x b w m) = refl
-idle-ended i (takeRoot x m) = refl
-
 module _ {M g : ℕ} (l : Block M g) where
   pub cycle-frees : {S : ℕ → Type 0} {h k : Abs} → Sound M h → Waiting M S g h → (r : Run M h k) → ProperRun r → ends r ≢ 0 → FreedIn M g h k r
   cycle-frees s w rest p e = absurd (e refl)
@@ -131,7 +107,7 @@ module _ {M g : ℕ} (l : Block M g) where
       let n′ : Reached j g → ⊥ = stays-out s m (p .0) a n in
       by-eq (ended m) 0
       (λ z. freed-later m (twice-around (move-sound s m) a′ n′ r (p .1) (omega arith)))
-      (λ z. freed-later m (once-around (move-sound s m) (ended-idle m z) a′ n′ r (p .1) (λ y. omega (arith, ended-one m)))))
+      (λ z. freed-later m (once-around (move-sound s m) (ended-idle m z) a′ n′ r (p .1) (λ y. omega (arith, kind-cost m, cost-one m)))))
 
 pub garbage-waits : GarbageWaits
 garbage-waits = record { stays = stays-out; once = once-around; twice = twice-around }

@@ -2,36 +2,38 @@
 --     pends                the weight: 1 for white and grey, else 0
 --     pending M h          the number of white and grey blocks
 --     all-blocks           allocated and free blocks are together M
---     left M h             a bound on the units that the cycle has still to do (left-idle, left-marking, left-sweeping: by phase)
---     move-lowers          every unit of a cycle after its first lowers left by at least 1, and no other move raises it; run-lowers: so along a run
---     begin-left           what is left just after a beginning with A allocated blocks: A + 1 + span
---     cycle-spent          a cycle that begins with A allocated blocks: units spent, with those left, are at most A + span + 2
---     cycle-most           so a cycle takes at most A + M + 2 units
---     ahead M h            the turn and the sweep moves that the cycle has still to do (ahead-idle, ahead-marking, ahead-sweeping: by phase)
---     move-ahead, run-ahead     every unit but a mark lowers it by 1, nothing else changes it
+--     due M h              the blocks that the cycle may still mark: those pending while marking, else none (due-marking, due-off)
+--     move-due, run-due    every mark lowers it by at least 1, and no move of a cycle raises it
+--     left M h             a bound on the units that the cycle has still to do: those due and those ahead
+--     move-lowers          every unit of a cycle after its first lowers left by at least 1, and no other move raises it by more than the span
+--     begin-due, begin-left     just after a beginning with A allocated blocks A are due, and A + 1 + span units left
+--     cycle-units          at every moment of a cycle: units spent, with those ahead, are at most 2, the blocks marked and the span
+--     marks-few            it marks at most A blocks, those still due among them
+--     cycle-spent          so units spent, with those left, are at most A + span + 2
 --     cycle-exact          a whole cycle takes 2 units, one for each block marked, and one for each block that the sweep visits
---     marks-few            so it marks at most A blocks
 --     cycle-short          the statement CycleShort
--- Both are stated with the span before and after: left and span would rise alike, should a move raise the span.
--- While marking: white and grey blocks, the turn, the sweep. A mark turns one grey block black; the barrier turns white to grey; a block taken is
--- black. While sweeping: the blocks from the position on.
+-- While marking: a mark turns one grey block black; the barrier turns white to grey; a block taken is black. What lies ahead is the subject of Ahead.
 -- Assumes nothing.
-use Prim.Native.Nat.{ℕ, zero, suc, _+_, _-_, _≤_}
+use Prim.Native.Nat.{ℕ, zero, suc, _+_, _≤_}
 use mathlib.Core.Path.{_≡_, refl, sym, _∙_, ap}
+use mathlib.Core.Logic.{_≢_}
 use native.Mathlib.Omega.{arith}
 use Rattle.theory_reach.specs.Sums.{Block, total}
-use Rattle.theory_reach.proofs.Splits.{never}
+use Rattle.theory_reach.proofs.Splits.{never, by-eq}
 use Rattle.theory_reach.proofs.Sums.{total-le, total-same, total-down, total-plus, total-ones}
 use Rattle.theory_moves.specs.Tints.{Tint, White, Grey, Black, Free, Turned, turned, stayed}
-use Rattle.theory_moves.specs.Heaps.{Abs, idle, marking, sweeping, Sound, span, final}
-use Rattle.theory_moves.specs.Moves.{Begin, Mark, Onward, going, ending, Sweep, Fresh, newMarking, newAhead, newBehind, newIdle}
+use Rattle.theory_moves.specs.Heaps.{Abs, idle, marking, Sound, span}
+use Rattle.theory_moves.specs.Moves.{Begin, Mark, Turning, entering, skipping, Fresh, newMarking, newAhead, newBehind, newIdle}
 use Rattle.theory_moves.specs.Moves.{Move, begin, mark, turn, sweep, writeNumber, writeRef, setRoot, takeHeld, takeRoot}
-use Rattle.theory_moves.specs.Kinds.{cost, marked, begun}
+use Rattle.theory_moves.specs.Kinds.{cost, marked, begun, ended}
 use Rattle.theory_moves.specs.Runs.{Run, rest, step, units, marks, begins}
 use Rattle.theory_moves.specs.Demand3.{stands, lies, allocated, unused, CycleShort}
 use Rattle.theory_moves.proofs.Tints.{tint-cases}
-use Rattle.theory_moves.proofs.Heaps.{span-same, span-most}
+use Rattle.theory_moves.proofs.ByKind.{kind-cost, cost-one, ended-idle, idle-ended}
 use Rattle.theory_moves.proofs.Mutating.{Tinted, keeps, greys, takes, Mutation, number-mutation, ref-mutation, root-mutation, held-mutation, taken-mutation}
+use Rattle.theory_moves.proofs.Soundness.{begin-sound, no-marking}
+use Rattle.theory_moves.proofs.Runs.{run-sound}
+use Rattle.theory_moves.proofs.Ahead.{ahead, ahead-idle, ahead-marking, move-ahead, move-ahead-most, run-ahead, run-ahead-most}
 
 -- the weight of what is still to mark
 abbrev pub pends : Tint → ℕ
@@ -54,50 +56,39 @@ all-blocks M h =
     go Black = refl
     go Free = refl
 
-leftIn : ℕ → ℕ → ℕ → ℕ → ℕ
-leftIn zero n e p = 0
-leftIn (suc zero) n e p = n + 1 + e
-leftIn (suc (suc q)) n e p = e + 2 - p
+dueIn : ℕ → ℕ → ℕ
+dueIn zero n = 0
+dueIn (suc zero) n = n
+dueIn (suc (suc p)) n = 0
 
-unfoldable pub left : ℕ → Abs → ℕ
-unfolding leftIn
-left M h = leftIn (h .phase) (pending M h) (span M h) (h .position)
+unfoldable pub due : ℕ → Abs → ℕ
+unfolding dueIn
+due M h = dueIn (h .phase) (pending M h)
 
--- with none pending: the turn and the sweep
-unfoldable pub ahead : ℕ → Abs → ℕ
-unfolding leftIn
-ahead M h = leftIn (h .phase) 0 (span M h) (h .position)
+abbrev pub left : ℕ → Abs → ℕ
+left M h = due M h + ahead h
 
 module _ (M : ℕ) (h : Abs) where
+  pub due-marking : h .phase ≡ marking → due M h ≡ pending M h
+  unfolding due dueIn
+  due-marking e = rw e refl
+
+  pub due-off : h .phase ≢ marking → due M h ≡ 0
+  unfolding due dueIn
+  due-off n = go (h .phase) (pending M h) n
+    where
+      go : (p n : ℕ) → p ≢ marking → dueIn p n ≡ 0
+      go zero n e = refl
+      go (suc zero) n e = absurd (e refl)
+      go (suc (suc p)) n e = refl
+
   pub left-idle : h .phase ≡ idle → left M h ≡ 0
-  unfolding left leftIn
-  left-idle e = rw e refl
+  left-idle e = omega (arith, due-off (λ p. omega arith), ahead-idle h e)
 
-  pub left-marking : h .phase ≡ marking → left M h ≡ pending M h + 1 + span M h
-  unfolding left leftIn
-  left-marking e = rw e refl
-
-  pub left-sweeping : h .phase ≡ sweeping → left M h ≡ span M h + 2 - h .position
-  unfolding left leftIn
-  left-sweeping e = rw e refl
-
-  pub ahead-idle : h .phase ≡ idle → ahead M h ≡ 0
-  unfolding ahead leftIn
-  ahead-idle e = rw e refl
-
-  pub ahead-marking : h .phase ≡ marking → ahead M h ≡ 0 + 1 + span M h
-  unfolding ahead leftIn
-  ahead-marking e = rw e refl
-
-  pub ahead-sweeping : h .phase ≡ sweeping → ahead M h ≡ span M h + 2 - h .position
-  unfolding ahead leftIn
-  ahead-sweeping e = rw e refl
-
-left-order : (p n o e q : ℕ) → (p ≡ marking → n ≤ o) → leftIn p n e q ≤ leftIn p o e q
-unfolding leftIn
-left-order zero n o e q l = omega arith
-left-order (suc zero) n o e q l = omega (arith, l refl)
-left-order (suc (suc p)) n o e q l = omega arith
+-- after a turn the collector no longer marks
+turning-off : {h k : Abs} → Turning h k → k .phase ≢ marking
+turning-off (entering n p e) z = absurd (omega arith)
+turning-off (skipping e p) z = absurd (omega arith)
 
 -- white and grey turn into white and grey
 turned-pends : {S : Type 0} {s t : Tint} → Turned S s t → pends t ≡ pends s
@@ -121,83 +112,72 @@ module _ {M : ℕ} {h k : Abs} where
       let d = total-down M (λ c. pends (k .tint c)) (λ c. pends (h .tint c)) b (m .block) (λ c l n. omega (arith, turned-pends (m .tints c l n))) in
       omega (arith, d, ap pends (m .grey), ap pends (m .black))
 
-  mutation-lowers : {n : ℕ} → Mutation M n h k → left M k ≤ left M h
-  unfolding left
-  mutation-lowers m =
-      rw (span-same M h k, m .steady .phase, m .steady .position)
-      (left-order (h .phase) (pending M k) (pending M h) (span M h) (h .position) (λ p. total-le M _ _ (λ c l. tinted-pends p (m .tints c l))))
+  mutation-due : {n : ℕ} → Mutation M n h k → due M k ≤ due M h
+  mutation-due m =
+      by-eq (h .phase) marking
+      (λ p. omega (arith, due-marking M h p, due-marking M k (m .steady .phase ∙ p), total-le M _ _ (λ c l. tinted-pends p (m .tints c l))))
+      (λ n. omega (arith, due-off M k (λ p. n (sym (m .steady .phase) ∙ p))))
 
-  mutation-ahead : {n : ℕ} → Mutation M n h k → ahead M k ≡ ahead M h
-  unfolding ahead
-  mutation-ahead m = rw (span-same M h k, m .steady .phase, m .steady .position) refl
+  pub move-due : (m : Move M h k) → begun m ≡ 0 → marked m + due M k ≤ due M h
+  move-due (begin m) e = never (sym e)
+  move-due (mark b m) e = omega (arith, mark-pending b m, due-marking M h (m .before), due-marking M k (m .after))
+  move-due (turn m) e = omega (arith, due-off M k (turning-off (m .turning)))
+  move-due (sweep m) e = omega (arith, due-off M k (no-marking (m .onward)))
+  move-due (writeNumber b w v m) e = omega (arith, mutation-due (number-mutation b w v m))
+  move-due (writeRef b w t m) e = omega (arith, mutation-due (ref-mutation b w t m))
+  move-due (setRoot t m) e = omega (arith, mutation-due (root-mutation t m))
+  move-due (takeHeld x b w m) e = omega (arith, mutation-due (held-mutation x b w m))
+  move-due (takeRoot x m) e = omega (arith, mutation-due (taken-mutation x m))
 
-  sweep-lowers : Sweep M h k → 1 + left M k + span M h ≤ left M h + span M k
-  sweep-lowers m = go (m .onward)
-    where
-      go : Onward h k (final M h) → 1 + left M k + span M h ≤ left M h + span M k
-      go (going n p e) = omega (arith, left-sweeping M h (m .before), left-sweeping M k p, span-same M h k, m .short)
-      go (ending e p) = omega (arith, left-sweeping M h (m .before), left-idle M k p, span-same M h k)
-
-  sweep-ahead : Sweep M h k → 1 + ahead M k + span M h ≡ ahead M h + span M k
-  sweep-ahead m = go (m .onward)
-    where
-      go : Onward h k (final M h) → 1 + ahead M k + span M h ≡ ahead M h + span M k
-      go (going n p e) = omega (arith, ahead-sweeping M h (m .before), ahead-sweeping M k p, span-same M h k, m .short)
-      go (ending e p) = omega (arith, ahead-sweeping M h (m .before), ahead-idle M k p, span-same M h k)
-
-  pub move-lowers : (m : Move M h k) → begun m ≡ 0 → cost m + left M k + span M h ≤ left M h + span M k
-  move-lowers (begin m) e = never (sym e)
-  move-lowers (mark b m) e = omega (arith, mark-pending b m, left-marking M h (m .before), left-marking M k (m .after), span-same M h k)
-  move-lowers (turn m) e = omega (arith, left-marking M h (m .before), left-sweeping M k (m .after), m .position, span-same M h k)
-  move-lowers (sweep m) e = sweep-lowers m
-  move-lowers (writeNumber b w v m) e = omega (arith, mutation-lowers (number-mutation b w v m), span-same M h k)
-  move-lowers (writeRef b w t m) e = omega (arith, mutation-lowers (ref-mutation b w t m), span-same M h k)
-  move-lowers (setRoot t m) e = omega (arith, mutation-lowers (root-mutation t m), span-same M h k)
-  move-lowers (takeHeld x b w m) e = omega (arith, mutation-lowers (held-mutation x b w m), span-same M h k)
-  move-lowers (takeRoot x m) e = omega (arith, mutation-lowers (taken-mutation x m), span-same M h k)
-
-  pub move-ahead : (m : Move M h k) → begun m ≡ 0 → cost m + ahead M k + span M h ≡ marked m + ahead M h + span M k
-  move-ahead (begin m) e = never (sym e)
-  move-ahead (mark b m) e = omega (arith, ahead-marking M h (m .before), ahead-marking M k (m .after), span-same M h k)
-  move-ahead (turn m) e = omega (arith, ahead-marking M h (m .before), ahead-sweeping M k (m .after), m .position, span-same M h k)
-  move-ahead (sweep m) e = omega (arith, sweep-ahead m)
-  move-ahead (writeNumber b w v m) e = omega (arith, mutation-ahead (number-mutation b w v m), span-same M h k)
-  move-ahead (writeRef b w t m) e = omega (arith, mutation-ahead (ref-mutation b w t m), span-same M h k)
-  move-ahead (setRoot t m) e = omega (arith, mutation-ahead (root-mutation t m), span-same M h k)
-  move-ahead (takeHeld x b w m) e = omega (arith, mutation-ahead (held-mutation x b w m), span-same M h k)
-  move-ahead (takeRoot x m) e = omega (arith, mutation-ahead (taken-mutation x m), span-same M h k)
+  pub move-lowers : Sound M h → (m : Move M h k) → begun m ≡ 0 → cost m + left M k + span h ≤ left M h + span k
+  move-lowers s m e = omega (arith, move-due m e, move-ahead-most s m e)
 
 module _ {M : ℕ} where
-  pub run-lowers : {h k : Abs} (r : Run M h k) → begins r ≡ 0 → units r + left M k + span M h ≤ left M h + span M k
-  run-lowers rest e = omega arith
-  run-lowers (step m r) e = omega (arith, move-lowers m (omega arith), run-lowers r (omega arith))
-
-  pub run-ahead : {h k : Abs} (r : Run M h k) → begins r ≡ 0 → units r + ahead M k + span M h ≡ marks r + ahead M h + span M k
-  run-ahead rest e = omega arith
-  run-ahead (step m r) e = omega (arith, move-ahead m (omega arith), run-ahead r (omega arith))
+  pub run-due : {h k : Abs} (r : Run M h k) → begins r ≡ 0 → marks r + due M k ≤ due M h
+  run-due rest e = omega arith
+  run-due (step m r) e = omega (arith, move-due m (omega arith), run-due r (omega arith))
 
   -- at a beginning every allocated block is white, and the root turns grey
-  pub begin-left : {h k : Abs} → Sound M h → Begin M h k → left M k ≡ allocated M h + 1 + span M k
-  begin-left {h} {k} s m = omega (arith, left-marking M k (m .after), total-same M (λ c. pends (k .tint c)) (λ c. stands (h .tint c)) go)
+  pub begin-due : {h k : Abs} → Sound M h → Begin M h k → due M k ≡ allocated M h
+  begin-due {h} {k} s m = omega (arith, due-marking M k (m .after), total-same M (λ c. pends (k .tint c)) (λ c. stands (h .tint c)) go)
     where
       go : (c : ℕ) → Block M c → pends (k .tint c) ≡ stands (h .tint c)
       go c l =
           turned-pends (m .tints c l)
           ∙ tint-cases (h .tint c) (λ e. rw e refl) (λ e. absurd (s .idleGrey (m .before) c l e)) (λ e. absurd (s .idleBlack (m .before) c l e)) (λ e. rw e refl)
 
+  pub begin-left : {h k : Abs} → Sound M h → Begin M h k → left M k ≡ allocated M h + 1 + span k
+  begin-left {k = k} s m = omega (arith, begin-due s m, ahead-marking k (m .after))
+
   -- h is the heap at the beginning, i just after it; the beginning is the first unit
-  pub cycle-spent : {h i k : Abs} → Sound M h → Begin M h i → (r : Run M i k) → begins r ≡ 0 → 1 + units r + left M k ≤ allocated M h + span M k + 2
-  cycle-spent {i} s m r e = omega (arith, begin-left s m, run-lowers r e)
+  module _ {h i : Abs} (s : Sound M h) (m : Begin M h i) where
+    pub cycle-units : {k : Abs} (r : Run M i k) → begins r ≡ 0 → 1 + units r + ahead k ≤ 2 + marks r + span k
+    cycle-units r e = omega (arith, run-ahead-most (begin-sound s m) r e, ahead-marking i (m .after))
 
-  pub cycle-most : {h i k : Abs} → Sound M h → Begin M h i → (r : Run M i k) → begins r ≡ 0 → 1 + units r ≤ allocated M h + M + 2
-  cycle-most {k = k} s m r e = omega (arith, cycle-spent s m r e, span-most M k)
+    pub marks-few : {k : Abs} (r : Run M i k) → begins r ≡ 0 → marks r + due M k ≤ allocated M h
+    marks-few r e = omega (arith, begin-due s m, run-due r e)
 
-  pub cycle-exact : {h i k : Abs} → Begin M h i → (r : Run M i k) → begins r ≡ 0 → k .phase ≡ idle → 1 + units r ≡ 2 + marks r + span M k
-  cycle-exact {i = i} {k} m r e z = omega (arith, run-ahead r e, ahead-marking M i (m .after), ahead-idle M k z)
+    pub cycle-spent : {k : Abs} (r : Run M i k) → begins r ≡ 0 → 1 + units r + left M k ≤ allocated M h + span k + 2
+    cycle-spent r e = omega (arith, cycle-units r e, marks-few r e)
 
-  -- so at most every block that was allocated at the beginning is marked
-  pub marks-few : {h i k : Abs} → Sound M h → Begin M h i → (r : Run M i k) → begins r ≡ 0 → k .phase ≡ idle → marks r ≤ allocated M h
-  marks-few s m r e z = omega (arith, cycle-spent s m r e, cycle-exact m r e z)
+    pub cycle-exact : {j k : Abs} (r : Run M i j) → begins r ≡ 0 → (u : Move M j k) → ended u ≡ 1 → 1 + units r + cost u ≡ 2 + marks r + span k
+    cycle-exact {j} {k} r e u z =
+        let n : j .phase ≢ idle = λ p. omega (arith, idle-ended p u) in
+        omega (
+          arith,
+          run-ahead (begin-sound s m) r e n,
+          move-ahead (run-sound (begin-sound s m) r) n u,
+          ahead-marking i (m .after),
+          kind-cost u,
+          cost-one u,
+          ahead-idle k (ended-idle u (λ p. omega arith)),
+        )
 
 pub cycle-short : CycleShort
-cycle-short = record { counted = all-blocks; most = cycle-most; exact = cycle-exact; marked = marks-few }
+cycle-short =
+    record {
+      counted = all-blocks;
+      most = λ s m r e. omega (arith, cycle-spent s m r e);
+      exact = λ s m r e u z. cycle-exact s m r e u z;
+      marked = λ s m r e. omega (arith, marks-few s m r e);
+    }

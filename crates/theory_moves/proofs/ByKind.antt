@@ -1,18 +1,22 @@
 -- Splits on the kind of a move, and what follows from it.
 --     begins?              a case split: a move is a beginning or is none
 --     unit-none            a unit takes nothing and names nothing
---     begun-cost           a beginning is a unit
---     ended-idle, ended-one     after the move that ends a sweep the collector is idle; ended is 0 or 1
+--     kind-cost, cost-one       a beginning, a mark and an end are units, and no unit is two of them; a move is one unit at most
+--     ended-idle           after the move that ends a cycle the collector is idle
+--     idle-ended, ended-here    no cycle ends when idle; a move from another phase to idle ends one
+--     stays-idle, idle-cost     a move that is no beginning leaves an idle collector idle, and is no unit then
+--     mark-rises           no move lowers the mark
 -- Assumes nothing.
-use Prim.Native.Nat.{ℕ, _≤_}
-use mathlib.Core.Path.{_≡_, refl}
+use Prim.Native.Nat.{ℕ, _+_, _≤_}
+use mathlib.Core.Path.{_≡_, refl, sym, _∙_}
 use mathlib.Core.Logic.{_≢_}
 use native.Mathlib.Omega.{arith}
 use lib.ListN.{length}
 use Rattle.theory_reach.proofs.Splits.{never}
 use Rattle.theory_moves.specs.Heaps.{Abs, idle}
-use Rattle.theory_moves.specs.Moves.{Onward, going, ending, Begin, Move, begin, mark, turn, sweep, writeNumber, writeRef, setRoot, takeHeld, takeRoot}
-use Rattle.theory_moves.specs.Kinds.{cost, begun, ending?, ended, taking, target}
+use Rattle.theory_moves.specs.Moves.{Turning, entering, skipping, Onward, going, ending, Begin}
+use Rattle.theory_moves.specs.Moves.{Move, begin, mark, turn, sweep, writeNumber, writeRef, setRoot, takeHeld, takeRoot}
+use Rattle.theory_moves.specs.Kinds.{cost, marked, begun, skipping?, ending?, ended, taking, target}
 
 -- a move is a beginning or is none
 pub begins? : {A : Type 0} {M : ℕ} {h k : Abs} (m : Move M h k) → (Begin M h k → A) → (begun m ≡ 0 → A) → A
@@ -37,16 +41,9 @@ unit-none (setRoot t m) e = never e
 unit-none (takeHeld x b w m) e = never e
 unit-none (takeRoot x m) e = never e
 
-pub begun-cost : {M : ℕ} {h k : Abs} (m : Move M h k) → begun m ≤ cost m
-begun-cost (begin m) = omega arith
-begun-cost (mark b m) = omega arith
-begun-cost (turn m) = omega arith
-begun-cost (sweep m) = omega arith
-begun-cost (writeNumber b w v m) = omega arith
-begun-cost (writeRef b w t m) = omega arith
-begun-cost (setRoot t m) = omega arith
-begun-cost (takeHeld x b w m) = omega arith
-begun-cost (takeRoot x m) = omega arith
+skipping-idle : {h k : Abs} (t : Turning h k) → skipping? t ≢ 0 → k .phase ≡ idle
+skipping-idle (entering n p e) z = absurd (z refl)
+skipping-idle (skipping e p) z = p
 
 ending-idle : {h k : Abs} {n : ℕ} (o : Onward h k n) → ending? o ≢ 0 → k .phase ≡ idle
 ending-idle (going n p e) z = absurd (z refl)
@@ -55,7 +52,7 @@ ending-idle (ending e p) z = p
 pub ended-idle : {M : ℕ} {h k : Abs} (m : Move M h k) → ended m ≢ 0 → k .phase ≡ idle
 ended-idle (begin m) z = absurd (z refl)
 ended-idle (mark b m) z = absurd (z refl)
-ended-idle (turn m) z = absurd (z refl)
+ended-idle (turn m) z = skipping-idle (m .turning) z
 ended-idle (sweep m) z = ending-idle (m .onward) z
 ended-idle (writeNumber b w v m) z = absurd (z refl)
 ended-idle (writeRef b w t m) z = absurd (z refl)
@@ -63,17 +60,97 @@ ended-idle (setRoot t m) z = absurd (z refl)
 ended-idle (takeHeld x b w m) z = absurd (z refl)
 ended-idle (takeRoot x m) z = absurd (z refl)
 
+skipping-one : {h k : Abs} (t : Turning h k) → skipping? t ≤ 1
+skipping-one (entering n p e) = omega arith
+skipping-one (skipping e p) = omega arith
+
 ending-one : {h k : Abs} {n : ℕ} (o : Onward h k n) → ending? o ≤ 1
 ending-one (going n p e) = omega arith
 ending-one (ending e p) = omega arith
 
-pub ended-one : {M : ℕ} {h k : Abs} (m : Move M h k) → ended m ≤ 1
-ended-one (begin m) = omega arith
-ended-one (mark b m) = omega arith
-ended-one (turn m) = omega arith
-ended-one (sweep m) = ending-one (m .onward)
-ended-one (writeNumber b w v m) = omega arith
-ended-one (writeRef b w t m) = omega arith
-ended-one (setRoot t m) = omega arith
-ended-one (takeHeld x b w m) = omega arith
-ended-one (takeRoot x m) = omega arith
+pub kind-cost : {M : ℕ} {h k : Abs} (m : Move M h k) → begun m + marked m + ended m ≤ cost m
+kind-cost (begin m) = omega arith
+kind-cost (mark b m) = omega arith
+kind-cost (turn m) = omega (arith, skipping-one (m .turning))
+kind-cost (sweep m) = omega (arith, ending-one (m .onward))
+kind-cost (writeNumber b w v m) = omega arith
+kind-cost (writeRef b w t m) = omega arith
+kind-cost (setRoot t m) = omega arith
+kind-cost (takeHeld x b w m) = omega arith
+kind-cost (takeRoot x m) = omega arith
+
+pub cost-one : {M : ℕ} {h k : Abs} (m : Move M h k) → cost m ≤ 1
+cost-one (begin m) = omega arith
+cost-one (mark b m) = omega arith
+cost-one (turn m) = omega arith
+cost-one (sweep m) = omega arith
+cost-one (writeNumber b w v m) = omega arith
+cost-one (writeRef b w t m) = omega arith
+cost-one (setRoot t m) = omega arith
+cost-one (takeHeld x b w m) = omega arith
+cost-one (takeRoot x m) = omega arith
+
+-- no cycle ends when idle
+pub idle-ended : {M : ℕ} {h k : Abs} → h .phase ≡ idle → (m : Move M h k) → ended m ≡ 0
+idle-ended i (begin m) = refl
+idle-ended i (mark b m) = refl
+idle-ended i (turn m) = absurd (omega (arith, m .before))
+idle-ended i (sweep m) = absurd (omega (arith, m .before))
+idle-ended i (writeNumber b w v m) = refl
+idle-ended i (writeRef b w t m) = refl
+idle-ended i (setRoot t m) = refl
+idle-ended i (takeHeld x b w m) = refl
+idle-ended i (takeRoot x m) = refl
+
+skipping-here : {h k : Abs} (t : Turning h k) → k .phase ≡ idle → skipping? t ≡ 1
+skipping-here (entering n p e) z = absurd (omega arith)
+skipping-here (skipping e p) z = refl
+
+ending-here : {h k : Abs} {n : ℕ} (o : Onward h k n) → k .phase ≡ idle → ending? o ≡ 1
+ending-here (going n p e) z = absurd (omega arith)
+ending-here (ending e p) z = refl
+
+pub ended-here : {M : ℕ} {h k : Abs} → h .phase ≢ idle → k .phase ≡ idle → (m : Move M h k) → ended m ≡ 1
+ended-here n i (begin m) = absurd (n (m .before))
+ended-here n i (mark b m) = absurd (omega (arith, m .after))
+ended-here n i (turn m) = skipping-here (m .turning) i
+ended-here n i (sweep m) = ending-here (m .onward) i
+ended-here n i (writeNumber b w v m) = absurd (n (sym (m .steady .phase) ∙ i))
+ended-here n i (writeRef b w t m) = absurd (n (sym (m .steady .phase) ∙ i))
+ended-here n i (setRoot t m) = absurd (n (sym (m .steady .phase) ∙ i))
+ended-here n i (takeHeld x b w m) = absurd (n (sym (m .steady .phase) ∙ i))
+ended-here n i (takeRoot x m) = absurd (n (sym (m .steady .phase) ∙ i))
+
+-- a move that is no beginning leaves an idle collector idle
+pub stays-idle : {M : ℕ} {h k : Abs} → h .phase ≡ idle → (m : Move M h k) → begun m ≡ 0 → k .phase ≡ idle
+stays-idle i (begin m) e = never (sym e)
+stays-idle i (mark b m) e = absurd (omega (arith, m .before))
+stays-idle i (turn m) e = absurd (omega (arith, m .before))
+stays-idle i (sweep m) e = absurd (omega (arith, m .before))
+stays-idle i (writeNumber b w v m) e = m .steady .phase ∙ i
+stays-idle i (writeRef b w t m) e = m .steady .phase ∙ i
+stays-idle i (setRoot t m) e = m .steady .phase ∙ i
+stays-idle i (takeHeld x b w m) e = m .steady .phase ∙ i
+stays-idle i (takeRoot x m) e = m .steady .phase ∙ i
+
+pub idle-cost : {M : ℕ} {h k : Abs} → h .phase ≡ idle → (m : Move M h k) → begun m ≡ 0 → cost m ≡ 0
+idle-cost i (begin m) e = never (sym e)
+idle-cost i (mark b m) e = absurd (omega (arith, m .before))
+idle-cost i (turn m) e = absurd (omega (arith, m .before))
+idle-cost i (sweep m) e = absurd (omega (arith, m .before))
+idle-cost i (writeNumber b w v m) e = refl
+idle-cost i (writeRef b w t m) e = refl
+idle-cost i (setRoot t m) e = refl
+idle-cost i (takeHeld x b w m) e = refl
+idle-cost i (takeRoot x m) e = refl
+
+pub mark-rises : {M : ℕ} {h k : Abs} → Move M h k → h .mark ≤ k .mark
+mark-rises (begin m) = omega (arith, m .mark)
+mark-rises (mark b m) = omega (arith, m .mark)
+mark-rises (turn m) = omega (arith, m .mark)
+mark-rises (sweep m) = omega (arith, m .mark)
+mark-rises (writeNumber b w v m) = omega (arith, m .mark)
+mark-rises (writeRef b w t m) = omega (arith, m .mark)
+mark-rises (setRoot t m) = omega (arith, m .mark)
+mark-rises (takeHeld x b w m) = omega (arith, m .taken .mark)
+mark-rises (takeRoot x m) = omega (arith, m .taken .mark)

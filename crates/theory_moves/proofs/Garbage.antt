@@ -21,14 +21,14 @@ use Rattle.theory_reach.specs.Sums.{Block}
 use Rattle.theory_reach.proofs.Splits.{never, by-eq}
 use Rattle.theory_reach.proofs.Reaching.{reach-closed}
 use Rattle.theory_moves.specs.Tints.{White, Free, Turned, turned, stayed}
-use Rattle.theory_moves.specs.Heaps.{Abs, idle, marking, named, ref, Reached, Doomed, Live, Sound, final}
-use Rattle.theory_moves.specs.Moves.{Begin, Names, Mark, Turn, Swept, freeing, whitening, passing, Onward, going, ending, Sweep}
+use Rattle.theory_moves.specs.Heaps.{Abs, idle, marking, named, ref, Reached, Doomed, Live, Sound}
+use Rattle.theory_moves.specs.Moves.{Begin, Names, Mark, Turning, entering, skipping, Turn, Swept, freeing, whitening, passing, Onward, going, ending, Sweep}
 use Rattle.theory_moves.specs.Moves.{Move, begin, mark, turn, sweep, writeNumber, writeRef, setRoot, takeHeld, takeRoot}
 use Rattle.theory_moves.specs.Kinds.{begun}
 use Rattle.theory_moves.specs.Runs.{Run, rest, step, begins, Proper, ProperRun, FreedIn, freed-later}
 use Rattle.theory_moves.specs.Demand2.{GarbageGoes}
 use Rattle.theory_moves.proofs.Tints.{tint-cases, by-free, by-white}
-use Rattle.theory_moves.proofs.Heaps.{final-over}
+use Rattle.theory_moves.proofs.Heaps.{below-mark, unused-free}
 use Rattle.theory_moves.proofs.Runs.{frees-now}
 use Rattle.theory_moves.proofs.Mutating.{Tinted, keeps, greys, takes, Mutation, same-ref, tinted-steady, number-mutation, ref-mutation, root-mutation, held-mutation, taken-mutation}
 use Rattle.theory_moves.proofs.Soundness.{move-sound, begin-sound}
@@ -118,15 +118,20 @@ module _ {M : ℕ} {S : ℕ → Type 0} {h k : Abs} (t : Trail M S h) where
       go c l q (greys p e w f) = subst S (sym e) (i (λ z. absurd (omega (arith, l .low))))
       go c l q (takes e f g) = t .darkIn c l (λ w. never (cc))
 
-  turn-dooms : {g : ℕ} → Block M g → (S g → ⊥) → Turn M h k → Doomed k g
-  turn-dooms {g} l n m =
-      record {
-        phase = m .after;
-        ahead = omega (arith, m .position);
-        white = by-white (h .tint g) (λ w. m .tints g l ∙ w) (λ w. absurd (n (t .darkIn g l w)));
-      }
+  -- a turn that skips the sweep has nothing to free: all blocks are free, and in S
+  turn-dooms : {g : ℕ} → Sound M h → Block M g → (S g → ⊥) → Turn M h k → Doomed k g
+  turn-dooms {g} s l n m = go (m .turning)
+    where
+      go : Turning h k → Doomed k g
+      go (entering o p e) =
+          record {
+            phase = p;
+            ahead = omega (arith, l .low);
+            white = by-white (h .tint g) (λ w. m .tints g l ∙ w) (λ w. absurd (n (t .darkIn g l w)));
+          }
+      go (skipping o p) = absurd (n (t .darkIn g l (λ z. never (cc (unused-free s o g l)))))
 
-module _ {M : ℕ} {h k : Abs} {g : ℕ} (l : Block M g) (d : Doomed h g) where
+module _ {M : ℕ} {h k : Abs} {g : ℕ} (s : Sound M h) (l : Block M g) (d : Doomed h g) where
   sweep-dooms : k .tint g ≢ Free → Sweep M h k → Doomed k g
   sweep-dooms a m = by-eq g (h .position) (go (m .here)) (away (m .onward))
     where
@@ -135,9 +140,9 @@ module _ {M : ℕ} {h k : Abs} {g : ℕ} (l : Block M g) (d : Doomed h g) where
       go (whitening w f b) i = never (cc (d .white))
       go (passing w f b) i = absurd (a (rw i f))
 
-      away : Onward h k (final M h) → g ≢ h .position → Doomed k g
+      away : Onward h k (h .mark) → g ≢ h .position → Doomed k g
       away (going n p e) i = record { phase = p; ahead = omega (arith, d .ahead); white = m .tints g l i ∙ d .white }
-      away (ending e p) i = absurd (i (omega (arith, d .ahead, final-over M h g l (λ z. never (cc (d .white))))))
+      away (ending e p) i = absurd (i (omega (arith, d .ahead, below-mark s g l (λ z. never (cc (d .white))))))
 
   mutation-dooms : {n : ℕ} → Mutation M n h k → Doomed k g
   mutation-dooms m =
@@ -150,16 +155,16 @@ module _ {M : ℕ} {h k : Abs} {g : ℕ} (l : Block M g) (d : Doomed h g) where
 module _ {M : ℕ} {S : ℕ → Type 0} {h k : Abs} {g : ℕ} (s : Sound M h) (l : Block M g) where
   mutation-waits : {n : ℕ} → Mutation M n h k → (h .phase ≡ marking → Trail M S h → n ≢ 0 → S n) → Waiting M S g h → Waiting M S g k
   mutation-waits m i (unmarked p t n) = unmarked (m .steady .phase ∙ p) (mutation-trail t m (i p t)) n
-  mutation-waits m i (doomed d) = doomed (mutation-dooms l d m)
+  mutation-waits m i (doomed d) = doomed (mutation-dooms s l d m)
 
   pub waits-on : (m : Move M h k) → begun m ≡ 0 → Proper m → k .tint g ≢ Free → Waiting M S g h → Waiting M S g k
   waits-on (begin m) e p a w = never (sym e)
   waits-on (mark b m) e p a (unmarked q t n) = unmarked (m .after) (mark-trail t b m) n
   waits-on (mark b m) e p a (doomed d) = absurd (omega (arith, m .before, d .phase))
-  waits-on (turn m) e p a (unmarked q t n) = doomed (turn-dooms t l n m)
+  waits-on (turn m) e p a (unmarked q t n) = doomed (turn-dooms t s l n m)
   waits-on (turn m) e p a (doomed d) = absurd (omega (arith, m .before, d .phase))
   waits-on (sweep m) e p a (unmarked q t n) = absurd (omega (arith, m .before))
-  waits-on (sweep m) e p a (doomed d) = doomed (sweep-dooms l d a m)
+  waits-on (sweep m) e p a (doomed d) = doomed (sweep-dooms s l d a m)
   waits-on (writeNumber b w v m) e p a x = mutation-waits (number-mutation b w v m) (λ q t n. absurd (n refl)) x
   waits-on (writeRef b w t m) e p a x = mutation-waits (ref-mutation b w t m) (λ q t n. reached-in t s (p n)) x
   waits-on (setRoot t m) e p a x = mutation-waits (root-mutation t m) (λ q t n. reached-in t s (p n)) x

@@ -22,7 +22,7 @@ use Rattle.theory_moves.specs.Kinds.{cost, begun, taking}
 use Rattle.theory_moves.specs.Runs.{Run, rest, step, units, taken, Proper, ProperRun, OnlyUnits}
 use Rattle.theory_moves.specs.Demand3.{allocated, Few}
 use Rattle.theory_moves.proofs.Heaps.{span-most}
-use Rattle.theory_moves.proofs.ByKind.{begins?, unit-none, begun-cost}
+use Rattle.theory_moves.proofs.ByKind.{begins?, unit-none, kind-cost}
 use Rattle.theory_moves.proofs.Soundness.{move-sound}
 use Rattle.theory_moves.proofs.Garbage.{Inside}
 use Rattle.theory_moves.proofs.Bounds.{left, move-lowers, begin-left}
@@ -36,7 +36,7 @@ pub record Ledger (M U B K credit : ℕ) (h : Abs) : Type 0 where
   pub taken : ℕ
   pub cover : Cover M (Inside start) covered h
   pub listed : length covered ≤ K + taken
-  pub short : spent + left M h ≤ M + span M h + 2
+  pub short : spent + left M h ≤ M + span h + 2
   pub paid : U * taken + 1 + credit ≤ spent + U * B
   pub both : U * (earlier + taken) + 1 + credit ≤ 2 * M + 2 + spent + U * B
   pub room : allocated M h ≤ K + earlier + taken
@@ -73,7 +73,7 @@ module _ {M U B K : ℕ} where
           listed = omega (arith, f .short);
           short = omega (arith, begin-left s m, allocated-most M h);
           paid = omega arith;
-          both = omega (arith, b .paid, b .short, span-most M h);
+          both = omega (arith, b .paid, b .short, span-most s);
           room = omega (arith, move-stands (begin m), cover-end (b .cover) (m .before), b .listed);
         }
 
@@ -87,7 +87,7 @@ module _ {M U B K : ℕ} where
           taken = b .taken + length (taking m);
           cover = cover-on s (b .cover) m e p;
           listed = omega (arith, length-append (taking m) (b .covered), b .listed);
-          short = omega (arith, move-lowers m e, b .short);
+          short = omega (arith, move-lowers s m e, b .short);
           paid = omega (arith, b .paid);
           both = omega (arith, b .both);
           room = omega (arith, move-stands m, b .room);
@@ -112,7 +112,7 @@ module _ {M U B K : ℕ} where
   pub act-ledger : {h k : Abs} {c : ℕ} (d : ℕ) → Sound M h → Ledger M U B K c h → (r : Run M h k) → units r ≡ 0 → ProperRun r → d + U * length (taken r) ≤ c → Ledger M U B K d k
   act-ledger d s b rest u p l = less-ledger d b (omega arith)
   act-ledger d s b (step m r) u p l =
-      let z : begun m ≡ 0 = omega (arith, begun-cost m) in
+      let z : begun m ≡ 0 = omega (arith, kind-cost m) in
       let l′ = simp length-append at l in
       act-ledger d (move-sound s m)
       (move-ledger (d + U * length (taken r)) s b m z (p .0) (omega arith))

@@ -10,6 +10,7 @@ pub mod Working
 pub mod Acting
 pub mod Garbage
 pub mod Around
+pub mod Ahead
 pub mod Bounds
 pub mod Taking
 pub mod Ledger

@@ -6,7 +6,7 @@
 --     tinted-free, tinted-kept, tinted-white, tinted-steady, tinted-live, was-live      free, white, live before and after
 --     number-mutation, ref-mutation, root-mutation, held-mutation, taken-mutation     each move is a Mutation
 -- Assumes nothing.
-use Prim.Native.Nat.{ℕ, _≤_}
+use Prim.Native.Nat.{ℕ, _+_, _≤_}
 use mathlib.Core.Path.{_≡_, refl, sym, _∙_}
 use mathlib.Core.Logic.{_≢_}
 use mathlib.Core.Bool.{Bool, true, false}
@@ -33,6 +33,10 @@ pub record Mutation (M n : ℕ) (h k : Abs) : Type 0 where
   -- the block named is live afterwards, and while marking it isn't white
   pub target : n ≢ 0 → Live M k n
   pub dark : n ≢ 0 → h .phase ≡ marking → k .tint n ≢ White
+  -- the mark doesn't fall, stays within the heap, and is at or above a block that was taken
+  pub rises : h .mark ≤ k .mark
+  pub within : h .mark ≤ M + 1 → k .mark ≤ M + 1
+  pub covers : n ≢ 0 → h .tint n ≡ Free → n ≤ k .mark
 
 pub same-ref : {h k : Abs} {b : ℕ} → SameCells h k b → (w : ℕ) → ref k b w ≡ ref h b w
 same-ref s w = rw (s .bits w, s .words w) refl
@@ -153,6 +157,9 @@ module _ {M : ℕ} {h k : Abs} where
         frees = λ c u l f. m .others c l (λ i. m .live .allocated (cc)) .bits u;
         target = λ n. absurd (n refl);
         dark = λ n. absurd (n refl);
+        rises = omega (arith, m .mark);
+        within = λ i. omega (arith, m .mark);
+        covers = λ n. absurd (n refl);
       }
 
   pub ref-mutation : (b w t : ℕ) → WriteRef M b w t h k → Mutation M t h k
@@ -168,6 +175,9 @@ module _ {M : ℕ} {h k : Abs} where
         frees = λ c u l f. m .others c l (λ i. m .live .allocated (cc)) .bits u;
         target = λ n. tinted-live (m .steady) (barred (m .tints t (m .target n .block))) (m .target n);
         dark = λ n. barred-dark h k t (m .tints t (m .target n .block));
+        rises = omega (arith, m .mark);
+        within = λ i. omega (arith, m .mark);
+        covers = λ n f. absurd (m .target n .allocated f);
       }
 
   pub root-mutation : (t : ℕ) → SetRoot M t h k → Mutation M t h k
@@ -180,6 +190,9 @@ module _ {M : ℕ} {h k : Abs} where
         frees = λ c u l f. m .cells c l .bits u;
         target = λ n. tinted-live (m .steady) (barred (m .tints t (m .target n .block))) (m .target n);
         dark = λ n. barred-dark h k t (m .tints t (m .target n .block));
+        rises = omega (arith, m .mark);
+        within = λ i. omega (arith, m .mark);
+        covers = λ n f. absurd (m .target n .allocated f);
       }
 
   taken-tints : (x : ℕ) → Taken M x h k → (c : ℕ) → Block M c → Tinted h k x c
@@ -206,6 +219,9 @@ module _ {M : ℕ} {h k : Abs} where
             (λ j. m .others c l (λ i. m .live .allocated (cc)) j .bits u);
         target = λ n. fresh-live (m .steady) (m .taken .block) (m .taken .fresh);
         dark = λ n. fresh-dark (m .taken .fresh);
+        rises = omega (arith, m .taken .mark);
+        within = λ i. omega (arith, m .taken .mark, m .taken .block .high);
+        covers = λ n f. omega (arith, m .taken .mark);
       }
 
   pub taken-mutation : (x : ℕ) → TakeRoot M x h k → Mutation M x h k
@@ -224,4 +240,7 @@ module _ {M : ℕ} {h k : Abs} where
             (λ j. m .others c l j .bits u);
         target = λ n. fresh-live (m .steady) (m .taken .block) (m .taken .fresh);
         dark = λ n. fresh-dark (m .taken .fresh);
+        rises = omega (arith, m .taken .mark);
+        within = λ i. omega (arith, m .taken .mark, m .taken .block .high);
+        covers = λ n f. omega (arith, m .taken .mark);
       }

@@ -83,18 +83,18 @@ factor U a b l = by-le b a (λ i. absurd (omega (arith, mul-le-mul-left U i))) (
 
 module _ (M U B K N : ℕ) (large : 2 * M + 2 ≤ U * N) where
   -- allocated blocks, with those that the credit is for
-  ledger-room : (n : ℕ) (h : Abs) → Ledger M U B K (U * n) h → allocated M h + n < K + 2 * N + B
-  ledger-room n h b =
-      let f : b .earlier + b .taken + n < 2 * N + B = factor U _ _ (omega (arith, b .both, b .short, span-most M h, large)) in
+  ledger-room : (n : ℕ) (h : Abs) → Sound M h → Ledger M U B K (U * n) h → allocated M h + n < K + 2 * N + B
+  ledger-room n h s b =
+      let f : b .earlier + b .taken + n < 2 * N + B = factor U _ _ (omega (arith, b .both, b .short, span-most s, large)) in
       omega (arith, b .room)
 
 pub enough-room : EnoughRoom
 enough-room M U B K N h k i large s f e r o n m p q =
     let a = session-account (settled-account s f) e in
     let b = work-ledger (U * n) (a .sound) (a .few) (a .ledger) r o (omega arith) (mul-le-mul-left U m) in
-    omega (arith, ledger-room M U B K N large n i b, all-blocks M i)
+    omega (arith, ledger-room M U B K N large n i (run-sound (a .sound) r) b, all-blocks M i)
 
 pub room-margin : RoomMargin
 room-margin M U B K N h k large s f e =
     let a = session-account (settled-account s f) e in
-    omega (arith, ledger-room M U B K N large 0 k (less-ledger (U * 0) (a .ledger) (omega arith)), all-blocks M k)
+    omega (arith, ledger-room M U B K N large 0 k (a .sound) (less-ledger (U * 0) (a .ledger) (omega arith)), all-blocks M k)

@@ -1,9 +1,11 @@
 -- Every move keeps a sound heap sound.
 --     begin-sound, mark-sound, turn-sound, sweep-sound, mutation-sound     a law for each kind of move
 --     sweep-cells          a sweep leaves the cells of live blocks
+--     no-marking           after a sweep move the collector doesn't mark
 --     move-sound           for every move
 -- Begin: there is no black block yet. Mark b: b's white children turn grey in the same move. Turn: nothing is grey, so the root and all that
--- black blocks name are black, hence live. Sweep: the block at the position was doomed, or is white and passed, or free.
+-- black blocks name are black, hence live; a turn that skips the sweep leaves a heap with all blocks free. Sweep: the block at the position was
+-- doomed, or is white and passed, or free; a block that is still allocated isn't above the mark, so at the sweep's end none is black.
 -- The running program: the block named isn't white while marking, and is live; a new block names nothing.
 -- Assumes nothing.
 use Prim.Native.Nat.{ℕ, _+_, _≤_, _<_}
@@ -14,11 +16,12 @@ use native.Mathlib.Omega.{arith}
 use Rattle.theory_reach.specs.Sums.{Block}
 use Rattle.theory_reach.proofs.Splits.{never, by-eq}
 use Rattle.theory_moves.specs.Tints.{Tint, White, Grey, Black, Free}
-use Rattle.theory_moves.specs.Heaps.{Abs, idle, marking, sweeping, named, ref, Doomed, Live, Sound, final}
-use Rattle.theory_moves.specs.Moves.{SameCells, Begin, Names, Mark, Turn, Swept, freeing, whitening, passing, Onward, going, ending, Sweep, Fresh, newMarking, newAhead, newBehind, newIdle}
+use Rattle.theory_moves.specs.Heaps.{Abs, idle, marking, sweeping, named, ref, Doomed, Live, Sound}
+use Rattle.theory_moves.specs.Moves.{SameCells, Begin, Names, Mark, Turning, entering, skipping, Turn, Swept, freeing, whitening, passing}
+use Rattle.theory_moves.specs.Moves.{Onward, going, ending, Sweep, Fresh, newMarking, newAhead, newBehind, newIdle}
 use Rattle.theory_moves.specs.Moves.{Move, begin, mark, turn, sweep, writeNumber, writeRef, setRoot, takeHeld, takeRoot}
 use Rattle.theory_moves.proofs.Tints.{tint-cases, was-white, white-out, was-black, was-free, stays-free}
-use Rattle.theory_moves.proofs.Heaps.{off-sweep, not-white, final-over}
+use Rattle.theory_moves.proofs.Heaps.{off-sweep, not-white, below-mark, unused-free, fresh-sound}
 use Rattle.theory_moves.proofs.Mutating.{Tinted, keeps, greys, takes, Mutation, same-ref, fresh-grey, tinted-free, tinted-white, tinted-live}
 use Rattle.theory_moves.proofs.Mutating.{was-live, number-mutation, ref-mutation, root-mutation, held-mutation, taken-mutation}
 
@@ -34,6 +37,10 @@ module _ {M : ℕ} {h k : Abs} (s : Sound M h) where
         namedMarked = λ p b w x l e r n z. s .idleBlack (m .before) b l (was-black (m .tints b l) e);
         sweptGrey = λ p. absurd (omega (arith, m .after));
         sweptBlack = λ p. absurd (omega (arith, m .after));
+        markLow = omega (arith, m .mark, s .markLow);
+        markHigh = omega (arith, m .mark, s .markHigh);
+        markOver = λ b l i. stays-free (m .tints b l) (s .markOver b l (omega (arith, m .mark)));
+        sweptMark = λ p. absurd (omega (arith, m .after));
         rootLive = λ n. subst (Live M k) (sym (m .root)) (over (s .rootLive (rw (m .root) at n)));
         namedLive = λ b w x l e n. over (s .namedLive b w x (back l) (sym (same-ref (m .cells b (l .block)) w) ∙ e) n);
         freeNames = λ b w l f. m .cells b l .bits w ∙ s .freeNames b w l (was-free (m .tints b l) f);
@@ -61,6 +68,10 @@ module _ {M : ℕ} {h k : Abs} (s : Sound M h) where
             (λ j. s .namedMarked (m .before) c w x l (was-black (m .tints c l j) e) r′ n (white-before x i z));
         sweptGrey = λ p. absurd (omega (arith, m .after));
         sweptBlack = λ p. absurd (omega (arith, m .after));
+        markLow = omega (arith, m .mark, s .markLow);
+        markHigh = omega (arith, m .mark, s .markHigh);
+        markOver = λ c l i. free-after c l (s .markOver c l (omega (arith, m .mark)));
+        sweptMark = λ p. absurd (omega (arith, m .after));
         rootLive = λ n. subst (Live M k) (sym (m .root)) (over (s .rootLive (rw (m .root) at n)));
         namedLive = λ c w x l e n. over (s .namedLive c w x (back l) (sym (same-ref (m .cells c (l .block)) w) ∙ e) n);
         freeNames = λ c w l f. m .cells c l .bits w ∙ s .freeNames c w l (free-before c l f);
@@ -87,15 +98,19 @@ module _ {M : ℕ} {h k : Abs} (s : Sound M h) where
       back : {c : ℕ} → Live M k c → Live M h c
       back {c} l = off-sweep (λ p. absurd (omega (arith, m .before))) (l .block) (λ z. l .allocated (free-after c (l .block) z))
 
-  pub turn-sound : Turn M h k → Sound M k
-  turn-sound m =
+  enter-sound : Turn M h k → h .mark ≢ 1 → k .phase ≡ sweeping → k .position ≡ 2 → Sound M k
+  enter-sound m o f q =
       record {
-        idleGrey = λ p. absurd (omega (arith, m .after));
-        idleBlack = λ p. absurd (omega (arith, m .after));
-        rootMarked = λ p. absurd (omega (arith, m .after));
-        namedMarked = λ p. absurd (omega (arith, m .after));
+        idleGrey = λ p. absurd (omega arith);
+        idleBlack = λ p. absurd (omega arith);
+        rootMarked = λ p. absurd (omega arith);
+        namedMarked = λ p. absurd (omega arith);
         sweptGrey = λ p b l z. m .none b l (sym (m .tints b l) ∙ z);
-        sweptBlack = λ p b l z. absurd (omega (arith, m .position));
+        sweptBlack = λ p b l i z. absurd (omega arith);
+        markLow = omega (arith, m .mark, s .markLow);
+        markHigh = omega (arith, m .mark, s .markHigh);
+        markOver = λ b l i. m .tints b l ∙ s .markOver b l (omega (arith, m .mark));
+        sweptMark = λ p. omega (arith, m .mark, s .markLow);
         rootLive = λ n.
             let n′ = rw (m .root) at n in
             subst (Live M k) (sym (m .root)) (over (s .rootLive n′) (s .rootMarked (m .before) n′));
@@ -105,28 +120,50 @@ module _ {M : ℕ} {h k : Abs} (s : Sound M h) where
             over
             (s .namedLive b w x (off-sweep (λ p. absurd (omega (arith, m .before))) (l .block) a) e′ n)
             (s .namedMarked (m .before) b w x (l .block) (black b (l .block) a (λ z. l .spared (doomed b (l .block) z))) e′ n);
-        freeNames = λ b w l f. m .cells b l .bits w ∙ s .freeNames b w l (sym (m .tints b l) ∙ f);
+        freeNames = λ b w l z. m .cells b l .bits w ∙ s .freeNames b w l (sym (m .tints b l) ∙ z);
       }
     where
       over : {b : ℕ} → Live M h b → h .tint b ≢ White → Live M k b
       over {b} l n = not-white (l .block) (λ z. l .allocated (sym (m .tints b (l .block)) ∙ z)) (λ z. n (sym (m .tints b (l .block)) ∙ z))
 
       doomed : (b : ℕ) → Block M b → h .tint b ≡ White → Doomed k b
-      doomed b l z = record { phase = m .after; ahead = omega (arith, m .position); white = m .tints b l ∙ z }
+      doomed b l z = record { phase = f; ahead = omega arith; white = m .tints b l ∙ z }
 
       black : (b : ℕ) → Block M b → h .tint b ≢ Free → h .tint b ≢ White → h .tint b ≡ Black
-      black b l f w = tint-cases (h .tint b) (λ e. absurd (w e)) (λ e. absurd (m .none b l e)) (λ e. e) (λ e. absurd (f e))
+      black b l a w = tint-cases (h .tint b) (λ e. absurd (w e)) (λ e. absurd (m .none b l e)) (λ e. e) (λ e. absurd (a e))
+
+  -- with the mark at 1 all blocks are free, as on a fresh heap
+  skip-sound : Turn M h k → h .mark ≡ 1 → k .phase ≡ idle → Sound M k
+  skip-sound m o f =
+      fresh-sound M k
+      (by-eq (k .root) 0 (λ e. e) (λ n. let l = s .rootLive (rw (m .root) at n) in absurd (l .allocated (unused-free s o (h .root) (l .block)))))
+      f (m .mark ∙ o) free
+      (λ b w l. m .cells b l .bits w ∙ s .freeNames b w l (unused-free s o b l))
+    where
+      free : (b : ℕ) → Block M b → k .tint b ≡ Free
+      free b l = m .tints b l ∙ unused-free s o b l
+
+  pub turn-sound : Turn M h k → Sound M k
+  turn-sound m = go (m .turning)
+    where
+      go : Turning h k → Sound M k
+      go (entering n f q) = enter-sound m n f q
+      go (skipping o f) = skip-sound m o f
 
 -- how the sweep goes on
 going-on : {h k : Abs} {n : ℕ} → Onward h k n → k .phase ≡ sweeping → k .position ≡ h .position + 1
 going-on (going n p e) z = e
 going-on (ending e p) z = absurd (omega arith)
 
+not-last : {h k : Abs} {n : ℕ} → Onward h k n → k .phase ≡ sweeping → h .position ≢ n
+not-last (going n p e) z = n
+not-last (ending e p) z = absurd (omega arith)
+
 at-end : {h k : Abs} {n : ℕ} → Onward h k n → k .phase ≡ idle → h .position ≡ n
 at-end (going n p e) z = absurd (omega arith)
 at-end (ending e p) z = e
 
-no-marking : {h k : Abs} {n : ℕ} → Onward h k n → k .phase ≢ marking
+pub no-marking : {h k : Abs} {n : ℕ} → Onward h k n → k .phase ≢ marking
 no-marking (going n p e) z = absurd (omega arith)
 no-marking (ending e p) z = absurd (omega arith)
 
@@ -157,8 +194,8 @@ module _ {M : ℕ} {h k : Abs} (m : Sweep M h k) where
             spared = λ d. l .spared (record { phase = m .before; ahead = omega (arith, going-on (m .onward) (d .phase), d .ahead); white = sym (m .tints c (l .block) i) ∙ d .white });
           }
 
-  sweep-back : {c : ℕ} → Live M k c → Live M h c
-  sweep-back {c} l = by-eq c (h .position) (λ i. go (m .here) i) (λ i. away (m .onward) i)
+  sweep-back : Sound M h → {c : ℕ} → Live M k c → Live M h c
+  sweep-back s {c} l = by-eq c (h .position) (λ i. go (m .here) i) (λ i. away (m .onward) i)
     where
       go : Swept h k (h .position) → c ≡ h .position → Live M h c
       go (freeing w f b) i = absurd (l .allocated (rw i f))
@@ -168,7 +205,7 @@ module _ {M : ℕ} {h k : Abs} (m : Sweep M h k) where
       kept : c ≢ h .position → h .tint c ≢ Free
       kept i z = l .allocated (m .tints c (l .block) i ∙ z)
 
-      away : Onward h k (final M h) → c ≢ h .position → Live M h c
+      away : Onward h k (h .mark) → c ≢ h .position → Live M h c
       away (going n p e) i =
           record {
             block = l .block;
@@ -176,7 +213,7 @@ module _ {M : ℕ} {h k : Abs} (m : Sweep M h k) where
             spared = λ d. l .spared (record { phase = p; ahead = omega (arith, d .ahead); white = m .tints c (l .block) i ∙ d .white });
           }
       away (ending e p) i =
-          record { block = l .block; allocated = kept i; spared = λ d. i (omega (arith, d .ahead, final-over M h c (l .block) (kept i))) }
+          record { block = l .block; allocated = kept i; spared = λ d. i (omega (arith, d .ahead, below-mark s c (l .block) (kept i))) }
 
   sweep-grey : Sound M h → (c : ℕ) → Block M c → k .tint c ≢ Grey
   sweep-grey s c l z = by-eq c (h .position) (λ i. go (m .here) i) (λ i. s .sweptGrey (m .before) c l (sym (m .tints c l i) ∙ z))
@@ -212,14 +249,18 @@ module _ {M : ℕ} {h k : Abs} (m : Sweep M h k) where
   sweep-sound s =
       record {
         idleGrey = λ p. sweep-grey s;
-        idleBlack = λ p c l. sweep-black s c l (λ a. omega (arith, at-end (m .onward) p, final-over M h c l a));
+        idleBlack = λ p c l. sweep-black s c l (λ a. omega (arith, at-end (m .onward) p, below-mark s c l a));
         rootMarked = λ p. absurd (no-marking (m .onward) p);
         namedMarked = λ p. absurd (no-marking (m .onward) p);
         sweptGrey = λ p. sweep-grey s;
         sweptBlack = λ p c l o. sweep-black s c l (λ a. omega (arith, going-on (m .onward) p));
+        markLow = omega (arith, m .mark, s .markLow);
+        markHigh = omega (arith, m .mark, s .markHigh);
+        markOver = λ c l i. m .tints c l (λ e. omega (arith, m .mark, m .short)) ∙ s .markOver c l (omega (arith, m .mark));
+        sweptMark = λ p. omega (arith, m .mark, m .short, going-on (m .onward) p, not-last (m .onward) p);
         rootLive = λ n. subst (Live M k) (sym (m .root)) (sweep-over (s .rootLive (rw (m .root) at n)));
         namedLive = λ c w x l e n.
-            let l′ = sweep-back l in
+            let l′ = sweep-back s l in
             sweep-over (s .namedLive c w x l′ (sym (same-ref (sweep-cells l′) w) ∙ e) n);
         freeNames = λ c w l f. sweep-free s c w l f;
       }
@@ -261,6 +302,15 @@ module _ {M n : ℕ} {h k : Abs} (s : Sound M h) (m : Mutation M n h k) where
       go (greys q i w e) = never (cc)
       go (takes i f g) = new f g
 
+  -- what was free and lies above the mark is free
+  mutation-over : (b : ℕ) → Block M b → k .mark < b → h .tint b ≡ Free → k .tint b ≡ Free
+  mutation-over b l i f = go (m .tints b l)
+    where
+      go : Tinted h k n b → k .tint b ≡ Free
+      go (keeps e) = e ∙ f
+      go (greys q j w e) = never (cc)
+      go (takes j w g) = absurd (omega (arith, l .low, m .covers (λ z. omega (arith, l .low)) (rw (← j) f)))
+
   new-names : (b w x : ℕ) → Block M b → h .tint b ≡ Free → ref h b w ≡ x → x ≢ 0 → ⊥
   unfolding named
   new-names b w x l f e z = z (cc (s .freeNames b w l f))
@@ -293,6 +343,10 @@ module _ {M n : ℕ} {h k : Abs} (s : Sound M h) (m : Mutation M n h k) where
         sweptBlack = λ p b l o z.
             let o′ : b < h .position = omega (arith, m .steady .position) in
             mutation-black b l z (s .sweptBlack (phase-before p) b l o′) (λ f g. fresh-behind g (phase-before p) o′ z);
+        markLow = omega (arith, m .rises, s .markLow);
+        markHigh = m .within (s .markHigh);
+        markOver = λ b l i. mutation-over b l i (s .markOver b l (omega (arith, m .rises)));
+        sweptMark = λ p. omega (arith, m .rises, m .steady .position, s .sweptMark (phase-before p));
         rootLive = λ q.
             by-eq (k .root) n
             (λ i. subst (Live M k) (sym i) (m .target (λ o. q (i ∙ o))))

@@ -1,5 +1,5 @@
 -- Demand 2 in the abstract, as statements about moves and runs.
---     MovesKeep            a heap with all blocks free is sound; every move and every run keeps a sound heap sound
+--     MovesKeep            a heap with all blocks free, none handed out, is sound; every move and every run keeps a sound heap sound
 --     SameCell h k b w     word w of b and its reference bit are as they were
 --     NothingLost          no move frees a reachable block, and only a write into it or a take held by it changes its words
 --     GarbageGoes          a block that is allocated and out of reach when a cycle begins is freed before the cycle ends
@@ -18,7 +18,7 @@ use Rattle.theory_moves.specs.Kinds.{cost, Writes, taking}
 use Rattle.theory_moves.specs.Runs.{Run, begins, ends, Proper, ProperRun, FreedIn}
 
 pub record MovesKeep : Type 0 where
-  pub fresh : (M : ℕ) (h : Abs) → h .root ≡ 0 → h .phase ≡ idle → ((b : ℕ) → Block M b → h .tint b ≡ Free)
+  pub fresh : (M : ℕ) (h : Abs) → h .root ≡ 0 → h .phase ≡ idle → h .mark ≡ 1 → ((b : ℕ) → Block M b → h .tint b ≡ Free)
       → ((b w : ℕ) → Block M b → h .isRef b w ≡ false) → Sound M h
   pub move : {M : ℕ} {h k : Abs} → Sound M h → Move M h k → Sound M k
   pub run : {M : ℕ} {h k : Abs} → Sound M h → Run M h k → Sound M k

@@ -1,13 +1,14 @@
 -- Demand 3 in the abstract, as statements about runs.
 --     stands, lies         the weights: 1 for what is allocated, for what is free, else 0
 --     allocated M h, unused M h     the number of allocated and of free blocks
---     CycleShort           a cycle that begins with A allocated blocks takes at most A + M + 2 units, and how many exactly
+--     CycleShort           a cycle that begins with A allocated blocks takes at most A + H + 2 units, and how many exactly
 --     Few K h              a list of at most K numbers in which each reachable block occurs
 --     Event M U B h k      some units, and then moves of the running program that take at most B blocks, with U units for each of them
 --     Session M U B K h k  events from h to k, after each of which at most K blocks are reachable
 --     Settled M K h        idle, with at most K blocks allocated, as on a fresh heap
 --     EnoughRoom           once the units for n blocks are done, n blocks are free
 --     RoomMargin           after every event at least M - K - 2N - (B - 1) blocks are free
+-- H is the number of blocks at or below the mark at the cycle's end, which is its last unit: at most M.
 -- N is any number with 2M + 2 ≤ U * N, and EnoughRoom asks for K + 2N + B - 1 ≤ M. With B = 1, as for single blocks: K + 2N ≤ M, and at least
 -- M - K - 2N are free.
 -- Assumes nothing.
@@ -20,7 +21,8 @@ use Rattle.theory_reach.specs.Sums.{Block, total}
 use Rattle.theory_reach.specs.Listed.{In}
 use Rattle.theory_moves.specs.Tints.{Tint, White, Grey, Black, Free}
 use Rattle.theory_moves.specs.Heaps.{Abs, idle, Reached, Sound, span}
-use Rattle.theory_moves.specs.Moves.{Begin}
+use Rattle.theory_moves.specs.Moves.{Begin, Move}
+use Rattle.theory_moves.specs.Kinds.{cost, ended}
 use Rattle.theory_moves.specs.Runs.{Run, units, marks, begins, taken, ProperRun, OnlyUnits}
 
 abbrev pub stands : Tint → ℕ
@@ -44,10 +46,12 @@ unused M h = total M (λ c. lies (h .tint c))
 -- h is the heap at the beginning, i just after it; the beginning is the first unit
 pub record CycleShort : Type 0 where
   pub counted : (M : ℕ) (h : Abs) → allocated M h + unused M h ≡ M
-  pub most : {M : ℕ} {h i k : Abs} → Sound M h → Begin M h i → (r : Run M i k) → begins r ≡ 0 → 1 + units r ≤ allocated M h + M + 2
-  -- a whole cycle takes 2 units, one for each block marked, and one for each block that the sweep visits
-  pub exact : {M : ℕ} {h i k : Abs} → Begin M h i → (r : Run M i k) → begins r ≡ 0 → k .phase ≡ idle → 1 + units r ≡ 2 + marks r + span M k
-  pub marked : {M : ℕ} {h i k : Abs} → Sound M h → Begin M h i → (r : Run M i k) → begins r ≡ 0 → k .phase ≡ idle → marks r ≤ allocated M h
+  -- at every moment, the cycle's last unit among them: the mark only rises
+  pub most : {M : ℕ} {h i k : Abs} → Sound M h → Begin M h i → (r : Run M i k) → begins r ≡ 0 → 1 + units r ≤ allocated M h + span k + 2
+  -- a whole cycle takes 2 units, one for each block marked, and one for each block that the sweep visits; m is its last unit
+  pub exact : {M : ℕ} {h i j k : Abs} → Sound M h → Begin M h i → (r : Run M i j) → begins r ≡ 0 → (m : Move M j k) → ended m ≡ 1
+      → 1 + units r + cost m ≡ 2 + marks r + span k
+  pub marked : {M : ℕ} {h i k : Abs} → Sound M h → Begin M h i → (r : Run M i k) → begins r ≡ 0 → marks r ≤ allocated M h
 
 pub record Few (K : ℕ) (h : Abs) : Type 0 where
   pub list : List ℕ

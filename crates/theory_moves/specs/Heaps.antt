@@ -1,5 +1,5 @@
 -- The abstract heap and what is asked of it.
---     Abs                  phase, position, root, a colour for each block, and each block's words and reference bits
+--     Abs                  phase, position, root, the mark, a colour for each block, and each block's words and reference bits
 --     idle, marking, sweeping    the phases
 --     named t x            x where the word is a reference, else 0
 --     ref h b w            the block that word w of b names as a reference, or 0
@@ -7,10 +7,11 @@
 --     Doomed h b           sweeping, at or above the position, white
 --     Live M h b           an allocated block that isn't doomed
 --     Sound M h            what every move keeps
---     span M h, final M h  how many blocks a sweep visits, and the last of them: M and M + 1
+--     span h               how many blocks lie at or below the mark: those that a sweep visits
+-- The mark is the highest block number handed out so far, 1 where none was.
 -- "0 or P x" is always said as: x ≢ 0 → P x.
 -- Assumes nothing.
-use Prim.Native.Nat.{ℕ, _+_, _≤_, _<_}
+use Prim.Native.Nat.{ℕ, _+_, _-_, _≤_, _<_}
 use mathlib.Core.Path.{_≡_}
 use mathlib.Core.Logic.{_≢_}
 use mathlib.Core.Bool.{Bool, true, false}
@@ -22,6 +23,7 @@ pub record Abs : Type 0 where
   pub phase : ℕ
   pub position : ℕ
   pub root : ℕ
+  pub mark : ℕ
   pub tint : ℕ → Tint
   pub word : ℕ → ℕ → ℕ
   pub isRef : ℕ → ℕ → Bool
@@ -66,14 +68,16 @@ pub record Sound (M : ℕ) (h : Abs) : Type 0 where
   -- sweeping: none grey, none black below the position
   pub sweptGrey : h .phase ≡ sweeping → (b : ℕ) → Block M b → h .tint b ≢ Grey
   pub sweptBlack : h .phase ≡ sweeping → (b : ℕ) → Block M b → b < h .position → h .tint b ≢ Black
+  -- the mark is 1 or a block, the blocks above it are free, and the sweep doesn't pass it
+  pub markLow : 1 ≤ h .mark
+  pub markHigh : h .mark ≤ M + 1
+  pub markOver : (b : ℕ) → Block M b → h .mark < b → h .tint b ≡ Free
+  pub sweptMark : h .phase ≡ sweeping → h .position ≤ h .mark
   -- always: the root is 0 or live, each reference of a live block is 0 or names a live block, a free block names nothing
   pub rootLive : h .root ≢ 0 → Live M h (h .root)
   pub namedLive : (b w x : ℕ) → Live M h b → ref h b w ≡ x → x ≢ 0 → Live M h x
   pub freeNames : (b w : ℕ) → Block M b → h .tint b ≡ Free → h .isRef b w ≡ false
 
--- the sweep visits the blocks 2 to final
-unfoldable pub span : ℕ → Abs → ℕ
-span M h = M
-
-abbrev pub final : ℕ → Abs → ℕ
-final M h = span M h + 1
+-- the blocks 2 to the mark
+abbrev pub span : Abs → ℕ
+span h = h .mark - 1

@@ -3,7 +3,7 @@
 --     At b w c u           word u of c is word w of b
 --     Writes m b w         m writes word w of b, or takes a block for it
 --     marked m, begun m    1 for a mark, for a beginning, else 0
---     ended m (ending?)    1 for the sweep move that returns to idle, else 0
+--     ended m (skipping?, ending?)     1 for the turn or the sweep move that returns to idle, else 0
 --     taking m             the block that m takes, as a list
 --     target m             the block that a write of a reference or a root change names, else 0
 -- Assumes nothing.
@@ -11,7 +11,8 @@ use Prim.Native.Nat.{ℕ}
 use mathlib.Core.Path.{_≡_}
 use mathlib.Core.List.{List, [], _∷_}
 use Rattle.theory_moves.specs.Heaps.{Abs}
-use Rattle.theory_moves.specs.Moves.{Onward, going, ending, Move, begin, mark, turn, sweep, writeNumber, writeRef, setRoot, takeHeld, takeRoot}
+use Rattle.theory_moves.specs.Moves.{Turning, entering, skipping, Onward, going, ending}
+use Rattle.theory_moves.specs.Moves.{Move, begin, mark, turn, sweep, writeNumber, writeRef, setRoot, takeHeld, takeRoot}
 
 abbrev pub cost : {M : ℕ} {h k : Abs} → Move M h k → ℕ
 cost (begin m) = 1
@@ -61,6 +62,10 @@ begun (setRoot t m) = 0
 begun (takeHeld x b w m) = 0
 begun (takeRoot x m) = 0
 
+abbrev pub skipping? : {h k : Abs} → Turning h k → ℕ
+skipping? (entering n p e) = 0
+skipping? (skipping e p) = 1
+
 abbrev pub ending? : {h k : Abs} {n : ℕ} → Onward h k n → ℕ
 ending? (going n p e) = 0
 ending? (ending e p) = 1
@@ -68,7 +73,7 @@ ending? (ending e p) = 1
 abbrev pub ended : {M : ℕ} {h k : Abs} → Move M h k → ℕ
 ended (begin m) = 0
 ended (mark b m) = 0
-ended (turn m) = 0
+ended (turn m) = skipping? (m .turning)
 ended (sweep m) = ending? (m .onward)
 ended (writeNumber b w v m) = 0
 ended (writeRef b w t m) = 0

@@ -1,20 +1,20 @@
 -- The moves: relations between the abstract heap before (h) and after (k), as pointwise equations.
 --     SameCells h k b      b's words and reference bits are as they were
 --     Begin, Mark, Turn, Sweep      the collector's units; Names: a word of a block names another; Swept: what became of the block at the position;
---                          Onward: where the position went
+--                          Turning: whether a sweep begins; Onward: where the position went
 --     WriteNumber, WriteRef, SetRoot, TakeHeld, TakeRoot      what the running program does; Steady: phase and position stay; Holds: one word of a
 --                          block is written; Barred: the barrier's one block; Taken, Fresh: a free block is taken, and its colour
 --     Move M h k           any one of them
 -- Which grey block is marked and which free block is taken is left open: no order of a list is in it.
 -- Of blocks outside 2 to M + 1 nothing is said, nor of the position away from sweeping.
 -- Assumes nothing.
-use Prim.Native.Nat.{ℕ, _+_, _≤_, _<_}
+use Prim.Native.Nat.{ℕ, _+_, max, _≤_, _<_}
 use mathlib.Core.Path.{_≡_}
 use mathlib.Core.Logic.{_≢_}
 use mathlib.Core.Bool.{Bool, true, false}
 use Rattle.theory_reach.specs.Sums.{Block}
 use Rattle.theory_moves.specs.Tints.{Tint, White, Grey, Black, Free, Turned}
-use Rattle.theory_moves.specs.Heaps.{Abs, idle, marking, sweeping, ref, Live, final}
+use Rattle.theory_moves.specs.Heaps.{Abs, idle, marking, sweeping, ref, Live}
 
 pub record SameCells (h k : Abs) (b : ℕ) : Type 0 where
   pub words : (w : ℕ) → k .word b w ≡ h .word b w
@@ -25,6 +25,7 @@ pub record Begin (M : ℕ) (h k : Abs) : Type 0 where
   pub before : h .phase ≡ idle
   pub after : k .phase ≡ marking
   pub root : k .root ≡ h .root
+  pub mark : k .mark ≡ h .mark
   pub tints : (b : ℕ) → Block M b → Turned (b ≡ h .root) (h .tint b) (k .tint b)
   pub cells : (b : ℕ) → Block M b → SameCells h k b
 
@@ -38,18 +39,24 @@ pub record Mark (M b : ℕ) (h k : Abs) : Type 0 where
   pub before : h .phase ≡ marking
   pub after : k .phase ≡ marking
   pub root : k .root ≡ h .root
+  pub mark : k .mark ≡ h .mark
   pub block : Block M b
   pub grey : h .tint b ≡ Grey
   pub black : k .tint b ≡ Black
   pub tints : (c : ℕ) → Block M c → c ≢ b → Turned (Names h b c) (h .tint c) (k .tint c)
   pub cells : (c : ℕ) → Block M c → SameCells h k c
 
--- none is grey: the sweep begins
+-- the sweep begins, or there is nothing to sweep
+pub data Turning (h k : Abs) : Type 0 where
+  entering : h .mark ≢ 1 → k .phase ≡ sweeping → k .position ≡ 2 → Turning h k
+  skipping : h .mark ≡ 1 → k .phase ≡ idle → Turning h k
+
+-- none is grey: marking is over
 pub record Turn (M : ℕ) (h k : Abs) : Type 0 where
   pub before : h .phase ≡ marking
-  pub after : k .phase ≡ sweeping
-  pub position : k .position ≡ 2
+  pub turning : Turning h k
   pub root : k .root ≡ h .root
+  pub mark : k .mark ≡ h .mark
   pub none : (b : ℕ) → Block M b → h .tint b ≢ Grey
   pub tints : (b : ℕ) → Block M b → k .tint b ≡ h .tint b
   pub cells : (b : ℕ) → Block M b → SameCells h k b
@@ -68,9 +75,10 @@ pub data Onward (h k : Abs) (last : ℕ) : Type 0 where
 pub record Sweep (M : ℕ) (h k : Abs) : Type 0 where
   pub before : h .phase ≡ sweeping
   pub block : Block M (h .position)
-  pub short : h .position ≤ final M h
-  pub onward : Onward h k (final M h)
+  pub short : h .position ≤ h .mark
+  pub onward : Onward h k (h .mark)
   pub root : k .root ≡ h .root
+  pub mark : k .mark ≡ h .mark
   pub here : Swept h k (h .position)
   pub tints : (c : ℕ) → Block M c → c ≢ h .position → k .tint c ≡ h .tint c
   pub cells : (c : ℕ) → Block M c → c ≢ h .position → SameCells h k c
@@ -90,6 +98,7 @@ pub record Holds (h k : Abs) (b w v : ℕ) (t : Bool) : Type 0 where
 pub record WriteNumber (M b w v : ℕ) (h k : Abs) : Type 0 where
   pub steady : Steady h k
   pub root : k .root ≡ h .root
+  pub mark : k .mark ≡ h .mark
   pub live : Live M h b
   pub tints : (c : ℕ) → Block M c → k .tint c ≡ h .tint c
   pub holds : Holds h k b w v false
@@ -103,6 +112,7 @@ pub record Barred (h : Abs) (t c : ℕ) : Type 0 where
 pub record WriteRef (M b w t : ℕ) (h k : Abs) : Type 0 where
   pub steady : Steady h k
   pub root : k .root ≡ h .root
+  pub mark : k .mark ≡ h .mark
   pub live : Live M h b
   pub target : t ≢ 0 → Live M h t
   pub tints : (c : ℕ) → Block M c → Turned (Barred h t c) (h .tint c) (k .tint c)
@@ -112,6 +122,7 @@ pub record WriteRef (M b w t : ℕ) (h k : Abs) : Type 0 where
 pub record SetRoot (M t : ℕ) (h k : Abs) : Type 0 where
   pub steady : Steady h k
   pub root : k .root ≡ t
+  pub mark : k .mark ≡ h .mark
   pub target : t ≢ 0 → Live M h t
   pub tints : (c : ℕ) → Block M c → Turned (Barred h t c) (h .tint c) (k .tint c)
   pub cells : (c : ℕ) → Block M c → SameCells h k c
@@ -123,11 +134,12 @@ pub data Fresh (h : Abs) (x : ℕ) (t : Tint) : Type 0 where
   newBehind : h .phase ≡ sweeping → x < h .position → t ≡ White → Fresh h x t
   newIdle : h .phase ≡ idle → t ≡ White → Fresh h x t
 
--- the free block x is taken: word 0 becomes 0, the other words and all bits stay
+-- the free block x is taken: word 0 becomes 0, the other words and all bits stay, and the mark rises to x where it was below
 pub record Taken (M x : ℕ) (h k : Abs) : Type 0 where
   pub block : Block M x
   pub free : h .tint x ≡ Free
   pub fresh : Fresh h x (k .tint x)
+  pub mark : k .mark ≡ max (h .mark) x
   pub tints : (c : ℕ) → Block M c → c ≢ x → k .tint c ≡ h .tint c
   pub emptied : k .word x 0 ≡ 0
   pub words : (u : ℕ) → u ≢ 0 → k .word x u ≡ h .word x u

@@ -1,14 +1,17 @@
--- The free count is the number of free blocks, in the machine and in its view.
+-- Counts of blocks: the free count is the number of free blocks, in the machine and in its view.
 --     count-sum                a count and a sum of weights agree where they agree block by block
 --     free-count               the number of blocks that are free in the view is the free count
 --     not-all-free             where some block is allocated the free count is below M
+--     mark-count               the blocks at or below the mark are the blocks 2 to the mark
 -- Assumes nothing.
-use Prim.Native.Nat.{ℕ, zero, suc, _+_, _≤_, _<_}
+use Prim.Native.Nat.{ℕ, zero, suc, _+_, _-_, _≤_, _<_}
 use mathlib.Core.Path.{_≡_, refl, sym, _∙_, ap}
 use mathlib.Core.Logic.{_≢_}
 use mathlib.Core.Bool.{Bool}
 use native.Mathlib.Numerals.{add-one}
 use native.Mathlib.Omega.{arith}
+use lib.Dec.{leb}
+use borrow.Author.Tests.{leb-true, leb-false}
 use Rattle.machine.specs.declared.Colour.the-variants.{Free}
 use Rattle.machine.specs.Tests.{if_then_else_}
 use Rattle.machine.specs.Colouring.{isFree}
@@ -24,6 +27,7 @@ use Rattle.theory_moves.specs.Tints.{Tint}
 use Rattle.theory_moves.specs.Demand3.{lies, unused}
 use Rattle.theory_moves.specs.Tints as tints
 use Rattle.theory_promises.specs.View.{tintOf, view, Shape}
+use Rattle.theory_promises.specs.Demand3.{blocksToMark}
 use Rattle.theory_promises.proofs.Viewing.{there}
 use Rattle.theory_promises.proofs.Recolouring.{free-of, of-free}
 
@@ -37,6 +41,16 @@ count-sum p f zero b same = refl
 count-sum p f (suc n) b same =
     let r = count-sum p f n (suc b) (λ c l. same c (record { low = omega arith; high = omega arith })) in
     rw (add-one b) (ap (λ (x : ℕ). x + sum n (suc b) f) (same b (record { low = omega arith; high = omega arith })) ∙ ap (λ (x : ℕ). one (p b) + x) r)
+
+-- of n blocks from b on, so many are at most k
+low-count : (k n b : ℕ) → k < b + n → countFrom (λ c. leb c k) n b ≡ k + 1 - b
+unfolding countFrom
+low-count k zero b l = omega arith
+low-count k (suc n) b l =
+    let r = low-count k n (b + 1) (omega arith) in
+    by-test (leb b k)
+    (λ t. let q = leb-true b k t in ap (λ (x : Bool). one x + countFrom (λ c. leb c k) n (b + 1)) t ∙ omega (arith, r))
+    (λ t. let q = leb-false b k t in ap (λ (x : Bool). one x + countFrom (λ c. leb c k) n (b + 1)) t ∙ omega (arith, r))
 
 free-weight : (t : Tint) → t ≡ tints.Free → lies t ≡ 1
 free-weight t e = rw e refl
@@ -75,3 +89,6 @@ module _ (h : Heap) (p : Shape h) where
       let z = other-weight (tintOf (colourOf h b)) n in
       let f = total-ones m (λ c. 1) (λ c k. refl) in
       omega arith
+
+  pub mark-count : blocksToMark h + 1 ≡ h .regs .mark
+  mark-count = let d = p .ready .marked in omega (arith, low-count (h .regs .mark) m 2 (omega arith))

@@ -117,6 +117,7 @@ module _ (m u : ℕ) (some : 1 ≤ m) (most : m ≤ 16384) (pace : u ≤ 65535) 
         free = λ n. record { low = omega arith; high = omega arith };
         root = λ n. absurd (n refl);
         count = omega arith;
+        marked = (omega arith, omega arith);
         placed = λ z. absurd (omega arith);
         parked = λ z. refl;
       }
@@ -171,7 +172,7 @@ module _ (m u : ℕ) (some : 1 ≤ m) (most : m ≤ 16384) (pace : u ≤ 65535) 
 
   pub fresh-view : Sound m (view h)
   unfolding formatted
-  fresh-view = fresh-sound m (view h) refl refl (λ b l. ap tintOf (tint-free b (here l))) (λ b w l. no-bits b w (here l))
+  fresh-view = fresh-sound m (view h) refl refl refl (λ b l. ap tintOf (tint-free b (here l))) (λ b w l. no-bits b w (here l))
 
   pub fresh-formed : WellFormed h
   unfolding formatted

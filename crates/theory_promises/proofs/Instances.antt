@@ -1,6 +1,7 @@
 -- The promises are not hollow: instances on the machine itself.
 --     closes-has               a list that the test accepts has every reachable block
 --     works-good               allocations that the test accepts meet demand 3's premises
+--     marks, sweeps            while marking or sweeping no unit starts a cycle
 --     freed                    a block out of reach is freed by a cycle
 --     survives                 a block out of reach that is stored as a target within the cycle is not
 --     replaced, restored       a Load that answers 0 puts another heap in place of one; demand 2 holds from what it loaded
@@ -188,10 +189,10 @@ never-freed {g} (later {ds} {h} d f) e =
 not-free : White ≡ Free → ⊥
 not-free e = true≢false (sym (ap freeColour e))
 
-marks : marking ≡ idle → ⊥
+pub marks : marking ≡ idle → ⊥
 marks e = absurd (omega arith)
 
-sweeps : sweeping ≡ idle → ⊥
+pub sweeps : sweeping ≡ idle → ⊥
 sweeps e = absurd (omega arith)
 
 alone : List·Memᴰ {A = ℕ} 3 (2 ∷ []) → ⊥
@@ -203,9 +204,9 @@ three = record { low = omega arith; high = omega arith }
 pub freed : Freed
 unfolding the-machine sessionDeeds plan acted deed after within allWithin namesWithin closes
 freed =
-    let begun : NoBegin plain (deed aUnit left) = (marks, (marks, (sweeps, (sweeps, (sweeps, tt))))) in
+    let begun : NoBegin plain (deed aUnit left) = (marks, (marks, (sweeps, (sweeps, tt)))) in
     let proper : Proper plain (deed aUnit left) =
-    (λ z. absurd (z refl), (λ z. absurd (z refl), (λ z. absurd (z refl), (λ z. absurd (z refl), (λ z. absurd (z refl), tt))))) in
+    (λ z. absurd (z refl), (λ z. absurd (z refl), (λ z. absurd (z refl), (λ z. absurd (z refl), tt)))) in
     let allocated : (IsFree left 3 → ⊥) = λ f. not-free (f .colour) in
     let unreached : (Reachable left 3 → ⊥) = λ r. alone (closes-has left (2 ∷ []) refl r) in
     record {
@@ -216,7 +217,7 @@ freed =
       proper = proper;
       allocated = allocated;
       unreached = unreached;
-      freed = garbage-goes fresh (fresh-formed 3 1 (omega arith) (omega arith) (omega arith)) (leaving ++ Work 6 ∷ [])
+      freed = garbage-goes fresh (fresh-formed 3 1 (omega arith) (omega arith) (omega arith)) (leaving ++ Work 5 ∷ [])
           (λ z. clash z refl, (λ z. clash z refl, (λ z. clash z refl, (λ z. clash z refl, (λ z. clash z refl, tt)))))
           before plain [] refl refl begun refl proper 3 three allocated unreached;
     }
@@ -227,7 +228,7 @@ survives =
     record {
       deeds = refl;
       starts = refl;
-      begun = (λ z. z, (marks, (marks, (marks, (sweeps, (sweeps, (sweeps, tt)))))));
+      begun = (λ z. z, (marks, (marks, (marks, (sweeps, (sweeps, tt))))));
       ends = refl;
       allocated = λ f. not-free (f .colour);
       unreached = λ r. alone (closes-has left (2 ∷ []) refl r);

@@ -3,6 +3,7 @@ pub mod Viewing
 pub mod Buffers
 pub mod Greys
 pub mod Recolouring
+pub mod Coursing
 pub mod MarkingMoves
 pub mod SweepingMoves
 pub mod Counts
@@ -29,3 +30,4 @@ pub mod Collecting
 pub mod Bounding
 pub mod Rooming
 pub mod Instances
+pub mod CycleInstances

@@ -1,7 +1,7 @@
 -- The units of marking are moves: begin, mark, turn. Each keeps the heap's shape.
 --     begin-move, begin-shape     a cycle begins
 --     mark-move, mark-shape       the first grey block is marked
---     turn-move, turn-shape       the sweep begins
+--     turn-move, turn-shape       marking is over: the sweep begins, or there is nothing to sweep
 -- Assumes nothing.
 use Prim.Native.Nat.{ℕ}
 use mathlib.Core.Path.{_≡_, refl, sym, _∙_, ap, subst}
@@ -9,7 +9,7 @@ use mathlib.Core.Logic.{_≢_, _↔_}
 use mathlib.Core.List.{List, List·Memᴰ}
 use native.Mathlib.Omega.{arith}
 use lib.Dec.{eqb}
-use borrow.Author.Tests.{ne-eqb}
+use borrow.Author.Tests.{eq-eqb, ne-eqb}
 use Rattle.machine.specs.declared.Colour.the-variants.{White, Grey, Black, Outside}
 use Rattle.machine.specs.Tests.{if_then_else_}
 use Rattle.machine.specs.Registers.{idle, marking}
@@ -17,20 +17,21 @@ use Rattle.machine.specs.Colouring.{Colouring, coloured, colourIn, toGrey, toBl
 use Rattle.machine.specs.Heap.{Heap, colouring, colourOf, referencesOf}
 use Rattle.machine.specs.WellFormed.{Block}
 use Rattle.machine.specs.Layout.{Fitting}
-use Rattle.machine.specs.OneUnit.{begun, marked, turned}
+use Rattle.machine.specs.OneUnit.{begun, marked, turnedRegs, turned}
 use Rattle.machine.proofs.Tests.{by-eq}
 use Rattle.machine.proofs.Steps.{never}
 use Rattle.machine.proofs.Kept.{recolouring, colouring-fits, begun-kept, marked-kept, turned-kept}
 use Rattle.machine.proofs.Linked.{linked}
 use Rattle.theory_audit.proofs.Words.{names-member, member-names}
 use Rattle.theory_moves.specs.Tints.{Turned}
-use Rattle.theory_moves.specs.Moves.{Begin, Mark, Turn}
+use Rattle.theory_moves.specs.Moves.{Begin, Mark, Turning, entering, skipping, Turn}
 use Rattle.theory_moves.proofs.Tints.{stays-free, was-free, stays-black}
 use Rattle.theory_moves.specs.Tints as tints
 use Rattle.theory_promises.specs.View.{tintOf, view, Shape}
 use Rattle.theory_promises.proofs.Viewing.{there, names-ref, ref-names, tinted}
 use Rattle.theory_promises.proofs.Greys.{TintIn, Greying, turned-as, greying-white, greying-one, greying-none, greying-all}
 use Rattle.theory_promises.proofs.Recolouring.{recoloured}
+use Rattle.theory_promises.proofs.Coursing.{turned-same, turned-colours}
 
 module _ (h : Heap) (p : Shape h) where
   abbrev m : ℕ
@@ -66,6 +67,7 @@ module _ (h : Heap) (p : Shape h) where
           before = i;
           after = refl;
           root = refl;
+          mark = refl;
           tints = λ b l. subst (λ (j : Colouring). Turned (b ≡ h .regs .root) (TintIn hues b) (TintIn j b)) (sym begun-as) (start .tints b);
           cells = λ b l. record { words = λ w. refl; bits = λ w. refl };
         }
@@ -120,6 +122,7 @@ module _ (h : Heap) (p : Shape h) where
           before = k;
           after = k;
           root = refl;
+          mark = refl;
           block = there first-block;
           grey = ap tintOf first-grey;
           black = ap (λ (j : Colouring). TintIn j first) marked-as ∙ blackAfter;
@@ -153,20 +156,33 @@ module _ (h : Heap) (p : Shape h) where
         )
 
   module _ (k : h .regs .phase ≡ marking) (o : h .regs .grey ≡ 1) where
+    ended-as : coloured (turnedRegs (h .regs) .blocks) (turnedRegs (h .regs) .grey) (h .colours) ≡ hues
+    ended-as = turned-colours (h .regs) (h .colours) refl refl
+
+    turning : Turning (view h) (view (turned h))
+    unfolding turned turnedRegs
+    turning =
+        by-eq (h .regs .mark) 1
+        (λ e. skipping e (rw (eq-eqb (h .regs .mark) 1 e) refl))
+        (λ n. entering n (rw (ne-eqb (h .regs .mark) 1 n) refl) (rw (ne-eqb (h .regs .mark) 1 n) refl))
+
     pub turn-move : Turn m (view h) (view (turned h))
     unfolding turned
     turn-move =
         record {
           before = k;
-          after = refl;
-          position = refl;
-          root = refl;
+          turning = turning;
+          root = turned-same (λ r. r .root) (h .regs) (λ x y r. refl);
+          mark = turned-same (λ r. r .mark) (h .regs) (λ x y r. refl);
           none = λ b l e. linked .empty hues b (p .greys) o (tinted h Grey l e (λ z. never (cc)) .colour);
-          tints = λ b l. refl;
+          tints = λ b l. ap (λ (j : Colouring). TintIn j b) ended-as;
           cells = λ b l. record { words = λ w. refl; bits = λ w. refl };
         }
 
     pub turn-shape : Shape (turned h)
     unfolding turned
     turn-shape =
-        recoloured h p _ hues refl refl refl refl (turned-kept h (p .ready) o) (p .colours) (λ c l. (λ e. e, λ e. e)) (p .greys)
+        recoloured h p _ hues ended-as refl
+        (turned-same (λ r. r .free) (h .regs) (λ x y r. refl))
+        (turned-same (λ r. r .count) (h .regs) (λ x y r. refl))
+        (turned-kept h (p .ready) o) (p .colours) (λ c l. (λ e. e, λ e. e)) (p .greys)

@@ -52,7 +52,8 @@ use Rattle.theory_promises.proofs.TakingMoves.{take-root, take-held, ta
 use Rattle.theory_promises.proofs.DeedMoves.{act-run, deed-formed}
 use Rattle.theory_promises.proofs.Planning.{Made, made-join}
 use Rattle.theory_promises.proofs.FirstFrees.{frees-same, frees-in}
-use Rattle.machine.proofs.Listing.{Distinct, listed-distinct}
+use Rattle.machine.specs.Lists.{Distinct}
+use Rattle.machine.proofs.Listing.{listed-distinct}
 
 takes-append : (ys zs : List Act) → takesIn (map anAct (ys ++ zs)) ≡ takesIn (map anAct ys) + takesIn (map anAct zs)
 takes-append [] zs = omega arith

@@ -195,6 +195,7 @@ module _ (h : Heap) (p : Shape h) where
         record {
           steady = record { phase = refl; position = refl };
           root = refl;
+          mark = refl;
           live = live-view h (into .live);
           tints = λ c k. refl;
           holds = written-holds h p b w v cleared (into .live .block) (into .low) false (clear-here _ w) (clear-there _ w);
@@ -283,6 +284,7 @@ module _ (h : Heap) (p : Shape h) where
           (record {
             steady = record { phase = refl; position = refl };
             root = refl;
+            mark = refl;
             live = live-view h (onto .live);
             target = λ n. live-view h (store-writable h b w t z .1 n);
             tints = λ c k. guarded-tints c;
@@ -301,6 +303,7 @@ module _ (h : Heap) (p : Shape h) where
           (record {
             steady = record { phase = refl; position = refl };
             root = refl;
+            mark = refl;
             target = λ n. live-view h (root-target h t z n);
             tints = λ c k. guarded-tints c;
             cells = λ c k. record { words = λ u. refl; bits = λ u. refl };

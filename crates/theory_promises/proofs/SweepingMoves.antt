@@ -1,5 +1,4 @@
 -- The units of the sweep are moves: the block at the position is freed, whitened or passed. Each keeps the heap's shape.
---     advance-same             what advance keeps of the registers
 --     onward                   the position goes on, or the sweep ends
 --     reclaim-move, reclaim-shape     a white block is freed
 --     whiten-move, whiten-shape       a black block becomes white
@@ -13,13 +12,13 @@ use mathlib.Core.List.{List}
 use native.Mathlib.Nat.{zero-div}
 use native.Mathlib.Numerals.{add-one}
 use native.Mathlib.Omega.{arith}
-use lib.Dec.{eqb, leb}
+use lib.Dec.{leb}
 use lib.ListN.{length, getD}
 use borrow.Author.Tests.{eq-eqb, ne-eqb, leb-true}
 use Rattle.machine.specs.declared.Regs.{Regs}
 use Rattle.machine.specs.declared.Colour.{Colour}
 use Rattle.machine.specs.declared.Colour.the-variants.{White, Grey, Black, Free, Outside}
-use Rattle.machine.specs.Registers.{idle, sweeping, withPhase, withPosition, withFree, withCount, sweepEnd}
+use Rattle.machine.specs.Registers.{sweeping, withFree, withCount, sweepEnd}
 use Rattle.machine.specs.Block.{wordOf, byteOf, bit, withEight, freeWords, clearByte}
 use Rattle.machine.specs.Colouring.{Colouring, coloured, colourIn, painted, GreysOf}
 use Rattle.machine.specs.Heap.{Heap, heap, colouring, colourOf}
@@ -27,12 +26,12 @@ use Rattle.machine.specs.WellFormed.{Block, Coloured, LaidOut, Exactly}
 use Rattle.machine.specs.Ready.{Ready}
 use Rattle.machine.specs.Layout.{Plain, Fitting}
 use Rattle.machine.specs.OneUnit.{advance, reclaimed, whitened, passed}
-use Rattle.machine.proofs.Tests.{by-eq, by-test, if-ind}
+use Rattle.machine.proofs.Tests.{by-eq, by-test}
 use Rattle.machine.proofs.Bytes.{free-rest}
 use Rattle.machine.proofs.Steps.{never}
+use Rattle.machine.proofs.Running.{sweeps-block}
 use Rattle.machine.proofs.Kept.{colouring-fits, advance-kept, reclaimed-kept, whitened-kept}
 use Rattle.machine.proofs.Linked.{linked}
-use Rattle.theory_moves.specs.Heaps.{span, final}
 use Rattle.theory_moves.specs.Moves.{SameCells, freeing, whitening, passing, Onward, going, ending, Sweep}
 use Rattle.theory_moves.specs.Tints as tints
 use Rattle.theory_promises.specs.View.{tintOf, view, Shape}
@@ -41,15 +40,7 @@ use Rattle.machine.proofs.Chains.{chain-same, same-blocks, chain-push, push-len
 use Rattle.theory_promises.proofs.Buffers.{byte-set, byte-kept, eight-set, eight-kept}
 use Rattle.theory_promises.proofs.Greys.{TintIn}
 use Rattle.theory_promises.proofs.Recolouring.{recoloured}
-
--- the same M and the same grey head make the same colouring
-colours-same : {a b c d : ℕ} (cs : List ℕ) → a ≡ b → c ≡ d → coloured a c cs ≡ coloured b d cs
-colours-same cs p q = λ i. coloured (p i) (q i) cs
-
--- what advance keeps
-pub advance-same : {A : Type 0} (f : Regs → A) (r : Regs) → ((p q : ℕ) (s : Regs) → f (withPosition q (withPhase p s)) ≡ f s) → f (advance r) ≡ f r
-unfolding advance
-advance-same f r same = if-ind (λ (s : Regs). f s ≡ f r) (eqb (r .position) (sweepEnd r)) (λ e. same idle 0 r) (λ e. same (r .phase) (r .position + 1) r)
+use Rattle.theory_promises.proofs.Coursing.{colours-same, advance-same, advance-colours}
 
 module _ (h : Heap) (p : Shape h) (s : h .regs .phase ≡ sweeping) where
   abbrev m : ℕ
@@ -64,25 +55,20 @@ module _ (h : Heap) (p : Shape h) (s : h .regs .phase ≡ sweeping) where
   fitting : Fitting hues
   fitting = colouring-fits h (p .ready)
 
-  -- the colouring whose registers are those of advance
-  advance-colours : (r : Regs) → r .blocks ≡ m → r .grey ≡ h .regs .grey → (cs : List ℕ) → coloured (advance r .blocks) (advance r .grey) cs ≡ coloured m (h .regs .grey) cs
-  advance-colours r b g cs = colours-same cs (advance-same (λ r. r .blocks) r (λ x y r. refl) ∙ b) (advance-same (λ r. r .grey) r (λ x y r. refl) ∙ g)
-
   pub position-block : Block m at
-  position-block = let q = p .ready .placed s in record { low = q .0; high = q .1 }
+  position-block = sweeps-block h (p .ready) s
 
   -- a heap whose registers are those of advance, whatever its buffers and other registers
-  pub onward : (r : Regs) → r .phase ≡ h .regs .phase → r .position ≡ at → r .blocks ≡ m → (ws cs bs : List ℕ) → Onward (view h) (view (heap (advance r) ws cs bs)) (final m (view h))
-  unfolding advance span
-  onward r f q b ws cs bs =
+  pub onward : (r : Regs) → r .phase ≡ h .regs .phase → r .position ≡ at → r .mark ≡ h .regs .mark → (ws cs bs : List ℕ) → Onward (view h) (view (heap (advance r) ws cs bs)) (h .regs .mark)
+  unfolding advance
+  onward r f q k ws cs bs =
       by-eq (r .position) (sweepEnd r)
-      (λ e. ending (sym q ∙ e ∙ ap (λ (n : ℕ). n + 1) b) (rw (eq-eqb (r .position) (sweepEnd r) e) refl))
-      (λ e. going (λ z. e (q ∙ z ∙ ap (λ (n : ℕ). n + 1) (sym b)))
+      (λ e. ending (sym q ∙ e ∙ k) (rw (eq-eqb (r .position) (sweepEnd r) e) refl))
+      (λ e. going (λ z. e (q ∙ z ∙ sym k))
       (rw (ne-eqb (r .position) (sweepEnd r) e) (f ∙ s)) (rw (ne-eqb (r .position) (sweepEnd r) e) (ap (λ (n : ℕ). n + 1) q)))
 
-  short : at ≤ final m (view h)
-  unfolding span
-  short = position-block .high
+  short : at ≤ h .regs .mark
+  short = p .ready .placed s .1
 
   -- the block at the position painted
   module _ (d : Colour) (plain : Plain d) where
@@ -110,7 +96,7 @@ module _ (h : Heap) (p : Shape h) (s : h .regs .phase ≡ sweeping) where
     whiter = painted at White hues
 
     as-whiter : coloured (advance (h .regs) .blocks) (advance (h .regs) .grey) (whiter .cells) ≡ whiter
-    as-whiter = advance-colours (h .regs) refl refl (whiter .cells)
+    as-whiter = advance-colours (h .regs) (whiter .cells) refl refl
 
     tint-whiter : (c : ℕ) → view (heap (advance (h .regs)) (h .words) (whiter .cells) (h .bytes)) .tint c ≡ TintIn whiter c
     tint-whiter c = ap (λ (j : Colouring). TintIn j c) as-whiter
@@ -124,6 +110,7 @@ module _ (h : Heap) (p : Shape h) (s : h .regs .phase ≡ sweeping) where
           short = short;
           onward = onward (h .regs) refl refl refl (h .words) (whiter .cells) (h .bytes);
           root = advance-same (λ r. r .root) (h .regs) (λ x y r. refl);
+          mark = advance-same (λ r. r .mark) (h .regs) (λ x y r. refl);
           here = whitening (ap tintOf k) (tint-whiter at ∙ ap tintOf (here-is White tt)) (record { words = λ u. refl; bits = λ u. refl });
           tints = λ c l n. tint-whiter c ∙ ap tintOf (there-kept White tt c n);
           cells = λ c l n. record { words = λ u. refl; bits = λ u. refl };
@@ -152,7 +139,7 @@ module _ (h : Heap) (p : Shape h) (s : h .regs .phase ≡ sweeping) where
   -- a free block is passed
   module _ (k : colourOf h at ≡ Free) where
     as-before : coloured (advance (h .regs) .blocks) (advance (h .regs) .grey) (h .colours) ≡ hues
-    as-before = advance-colours (h .regs) refl refl (h .colours)
+    as-before = advance-colours (h .regs) (h .colours) refl refl
 
     tint-same : (c : ℕ) → view (heap (advance (h .regs)) (h .words) (h .colours) (h .bytes)) .tint c ≡ TintIn hues c
     tint-same c = ap (λ (j : Colouring). TintIn j c) as-before
@@ -166,6 +153,7 @@ module _ (h : Heap) (p : Shape h) (s : h .regs .phase ≡ sweeping) where
           short = short;
           onward = onward (h .regs) refl refl refl (h .words) (h .colours) (h .bytes);
           root = advance-same (λ r. r .root) (h .regs) (λ x y r. refl);
+          mark = advance-same (λ r. r .mark) (h .regs) (λ x y r. refl);
           here = passing (ap tintOf k) (tint-same at ∙ ap tintOf k) (record { words = λ u. refl; bits = λ u. refl });
           tints = λ c l n. tint-same c;
           cells = λ c l n. record { words = λ u. refl; bits = λ u. refl };
@@ -298,13 +286,14 @@ module _ (h : Heap) (p : Shape h) (s : h .regs .phase ≡ sweeping) where
           short = short;
           onward = onward counted-up refl refl refl words′ (freer .cells) bytes′;
           root = advance-same (λ r. r .root) counted-up (λ x y r. refl);
+          mark = advance-same (λ r. r .mark) counted-up (λ x y r. refl);
           here = freeing (ap tintOf k) (tint-on at ∙ ap tintOf (here-is Free tt)) bits-clear;
           tints = λ c l n. tint-on c ∙ ap tintOf (there-kept Free tt c n);
           cells = λ c l n. cells-kept (advance counted-up) c (here l) n;
         }
       where
         tint-on : (c : ℕ) → view (heap (advance counted-up) words′ (freer .cells) bytes′) .tint c ≡ TintIn freer c
-        tint-on c = ap (λ (j : Colouring). TintIn j c) (advance-colours counted-up refl refl (freer .cells))
+        tint-on c = ap (λ (j : Colouring). TintIn j c) (advance-colours counted-up (freer .cells) refl refl)
 
     pub reclaim-shape : h .regs .count ≢ m → Shape (reclaimed h)
     unfolding reclaimed

@@ -5,7 +5,7 @@
 --     list-emptied, list-first, list-seven, list-sound     the free list is refused by 7 exactly where the free count is 0, and never by 8
 --     holder-sound, target-sound, take-sound     no block is refused by 8, and no allocation after its units
 --     new-neither              the new block's colour is white or black
---     taken-after              a block taken, and then a step in which its words and bits, and all colours, stay
+--     taken-after              a block taken, and then a step in which the mark, its words and bits, and all colours stay
 --     take-held, take-root     the move
 --     take-shape               the shape afterwards
 --     take-count, take-next    the free count falls by one, and the next free block is the head
@@ -23,7 +23,7 @@ use borrow.Author.Tests.{eq-eqb, ne-eqb}
 use Rattle.machine.specs.declared.Colour.{Colour}
 use Rattle.machine.specs.declared.Colour.the-variants.{White, Grey, Black, Free, Outside}
 use Rattle.machine.specs.Tests.{if_then_else_, _▷_}
-use Rattle.machine.specs.Registers.{idle, marking, sweeping, withFree, withCount, withRoot}
+use Rattle.machine.specs.Registers.{idle, marking, sweeping, withFree, withCount, withRoot, raised}
 use Rattle.machine.specs.Block.{place, wordOf, byteOf, withBit}
 use Rattle.machine.specs.Colouring.{freeColour, painted}
 use Rattle.machine.specs.Heap.{Heap, heap, colouring, withRegs, colourOf}
@@ -36,7 +36,7 @@ use Rattle.machine.specs.Layout.{Plain}
 use Rattle.machine.proofs.Tests.{by-test, by-eq, both, if-ind}
 use Rattle.machine.proofs.Bytes.{set-here, set-there}
 use Rattle.machine.proofs.Steps.{never}
-use Rattle.machine.proofs.Setting.{ready-words, ready-colours, ready-count, ready-free, ready-root}
+use Rattle.machine.proofs.Setting.{ready-words, ready-colours, ready-count, ready-free, ready-root, ready-raised}
 use Rattle.machine.proofs.Entering.{first-zero, block-or-none}
 use Rattle.machine.proofs.Refusals.{holder-live, within-layout, holder-undamaged, target-undamaged}
 use Rattle.machine.proofs.States.{black-ahead, black-not-idle, may-be-black}
@@ -73,12 +73,13 @@ module _ {next : ℕ → ℕ} {end : ℕ} where
   some-long (ends e) n z = n e
   some-long (goes m d) n z = absurd (omega arith)
 
-pub taken-after : {m x : ℕ} {h k j : Abs} → Taken m x h k → ((c : ℕ) → j .tint c ≡ k .tint c) → SameCells k j x → Taken m x h j
-taken-after {x} {h} d t s =
+pub taken-after : {m x : ℕ} {h k j : Abs} → Taken m x h k → j .mark ≡ k .mark → ((c : ℕ) → j .tint c ≡ k .tint c) → SameCells k j x → Taken m x h j
+taken-after {x} {h} d e t s =
     record {
       block = d .block;
       free = d .free;
       fresh = subst (Fresh h x) (sym (t x)) (d .fresh);
+      mark = e ∙ d .mark;
       tints = λ c l n. t c ∙ d .tints c l n;
       emptied = s .words 0 ∙ d .emptied;
       words = λ u n. s .words u ∙ d .words u n;
@@ -169,7 +170,11 @@ module _ (h : Heap) (p : Shape h) where
   module _ (n : x ≢ 0) where
     abbrev popped : Heap
     popped =
-        heap (withCount (h .regs .count - 1) (withFree link (h .regs))) (set (h .words) (place x 0) 0) (painted x hue (colouring h) .cells) (h .bytes)
+        heap
+        (raised x (withCount (h .regs .count - 1) (withFree link (h .regs))))
+        (set (h .words) (place x 0) 0)
+        (painted x hue (colouring h) .cells)
+        (h .bytes)
 
     block : Block m x
     block = first-free n .block
@@ -203,8 +208,9 @@ module _ (h : Heap) (p : Shape h) where
     popped-ready =
         let d = p .ready in
         let c = d .count in
+        let counted = ready-count (ready-free d link (λ o. next-free n o .block)) (h .regs .count - 1) (omega arith) in
         ready-words
-        (ready-colours (ready-count (ready-free d link (λ o. next-free n o .block)) (h .regs .count - 1) (omega arith)) (painted x hue (colouring h) .cells)
+        (ready-colours (ready-raised counted x block) (painted x hue (colouring h) .cells)
         (linked .paintKeeps (colouring h) x hue (colouring-fits h d) .cells ∙ sym (d .colours)))
         (set (h .words) (place x 0) 0) (simp length-set)
 
@@ -236,6 +242,7 @@ module _ (h : Heap) (p : Shape h) where
           block = there block;
           free = ap tintOf (first-free n .colour);
           fresh = subst (Fresh (view h) x) (ap tintOf (sym colour-here)) new-fresh;
+          mark = refl;
           tints = λ c l o. ap tintOf (colour-there c o);
           emptied = word-set block (h .words) 0 0 (p .ready .words) (omega arith);
           words = λ u o. word-as u (wordOf (popped .words) x u) (wordOf (h .words) x u) (λ q. word-there x u block q (inr o));
@@ -259,7 +266,7 @@ module _ (h : Heap) (p : Shape h) where
           (record {
             steady = record { phase = refl; position = refl };
             root = refl;
-            taken = taken-after (popped-taken some) (λ c. refl) (record { words = λ u. refl; bits = λ u. refl });
+            taken = taken-after (popped-taken some) refl (λ c. refl) (record { words = λ u. refl; bits = λ u. refl });
             others = λ c l o. let k = popped-cells some c l o in record { words = k .words; bits = k .bits };
           })
 
@@ -297,7 +304,7 @@ module _ (h : Heap) (p : Shape h) where
             steady = record { phase = refl; position = refl };
             root = refl;
             live = live-view h holder;
-            taken = taken-after (popped-taken some) (λ c. refl) (written-others g s b w x byte l low x (there (block some)) (λ o. apart (sym o)));
+            taken = taken-after (popped-taken some) refl (λ c. refl) (written-others g s b w x byte l low x (there (block some)) (λ o. apart (sym o)));
             holds = holds-after (popped-cells some b (there l) apart) (written-holds g s b w x byte l low true (set-here _ w) (set-there _ w));
             others = λ c i o q. cells-join (popped-cells some c i q) (written-others g s b w x byte l low c i o);
           })

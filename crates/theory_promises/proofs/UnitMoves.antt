@@ -38,8 +38,9 @@ use Rattle.theory_promises.specs.Sessions.{marking?}
 use Rattle.theory_moves.proofs.Heaps.{not-white}
 use Rattle.theory_promises.specs.View.{tintOf, view, Shape}
 use Rattle.theory_promises.proofs.Viewing.{there, colour-is, allocated-tint, names-ref}
+use Rattle.theory_promises.proofs.Coursing.{turned-same, advance-same}
 use Rattle.theory_promises.proofs.MarkingMoves.{begin-move, begin-shape, mark-move, mark-shape, turn-move, turn-shape}
-use Rattle.theory_promises.proofs.SweepingMoves.{advance-same, position-block, reclaim-move, reclaim-shape, whiten-move, whiten-shape, pass-move, pass-shape}
+use Rattle.theory_promises.proofs.SweepingMoves.{position-block, reclaim-move, reclaim-shape, whiten-move, whiten-shape, pass-move, pass-shape}
 use Rattle.theory_promises.proofs.Counts.{free-count, not-all-free}
 
 pub record Goes (h : Heap) (e : UnitEnd) : Type 0 where
@@ -100,8 +101,8 @@ module _ (h : Heap) (p : Shape h) (d : Sound (h .regs .blocks) (view h)) where
       by-step Turn (turns m _ _ _ k o)
       (record {
         finished = refl;
-        blocks = refl;
-        pace = refl;
+        blocks = turned-same (λ r. r .blocks) _ (λ x y r. refl);
+        pace = turned-same (λ r. r .pace) _ (λ x y r. refl);
         move = turn (turn-move h p k o);
         unit = refl;
         marks = simp (eq-eqb (h .regs .phase) marking k, eq-eqb (h .regs .grey) 1 o);

@@ -145,6 +145,7 @@ module _ (h : Heap) where
 
   pub wf-sound : WellFormed h → Sound (h .regs .blocks) (view h)
   wf-sound f =
+      let r = tests-ready h (f .fitting) (f .registers) in
       record {
         idleGrey = λ i b l e. f .greyless (λ k. absurd (omega arith)) b (tinted Grey l e (λ z. never (cc)));
         idleBlack = λ i b l e. f .blackless i b (tinted Black l e (λ z. never (cc)));
@@ -155,6 +156,10 @@ module _ (h : Heap) where
             (tinted White (there (f .namedLive b x (view-live (record { block = l; allocated = λ z. never (cc); spared = λ d. never (cc (d .white)) })) q n .block)) t (λ z. never (cc)));
         sweptGrey = λ s b l e. f .greyless (λ k. absurd (omega arith)) b (tinted Grey l e (λ z. never (cc)));
         sweptBlack = λ s b l p e. f .swept s b (tinted Black l e (λ z. never (cc))) p;
+        markLow = r .marked .0;
+        markHigh = r .marked .1;
+        markOver = λ b l g. ap tintOf (f .unused b (here l) g .colour);
+        sweptMark = λ s. r .placed s .1;
         rootLive = λ n. live-view (f .rootLive n);
         namedLive = λ b w x l e n. live-view (f .namedLive b x (view-live l) (ref-names w e n) n);
         freeNames = λ b w l e. free-bits (f .laid b (record { block = here l; colour = free-is (colourOf h b) e (f .colours b (here l)) })) w;
@@ -174,6 +179,7 @@ module _ (h : Heap) where
         greyless = λ n b g. grey-none n b g;
         blackless = λ i b k. s .idleBlack i b (there (k .block)) (ap tintOf (k .colour));
         swept = λ w b k l. s .sweptBlack w b (there (k .block)) l (ap tintOf (k .colour));
+        unused = λ b l g. record { block = l; colour = free-is (colourOf h b) (s .markOver b (there l) g) (p .colours b l) };
         rootMarked = λ k c. s .rootMarked k (λ z. absurd (root-some c z)) (ap tintOf (c .colour));
         namedMarked = λ k b x d n c.
             s .namedMarked k b (n .word) x (there (d .block)) (ap tintOf (d .colour)) (names-ref n) (λ z. absurd (block-some (c .block) z)) (ap tintOf (c .colour));

@@ -1,6 +1,8 @@
 -- Demand 3, as statements about the calls.
 --     allocatedBlocks h    how many blocks are allocated
---     CycleShort           "a cycle that starts with A allocated blocks takes at most A + M + 2 units", and exactly 2 + marked + M
+--     blocksToMark h       H: "how many blocks lie at or below the mark"
+--     thenUnit ys          the deeds ys and a unit after them
+--     CycleShort           "a cycle that starts with A allocated blocks takes at most" A + H + 2 "units", and exactly 2 + marked + H
 --     cycles m u           N: "(2M + 2)/U rounded up"
 --     Few k h              at most k blocks are reachable: a list of at most k numbers in which each of them occurs
 --     Good k cs h          after each call at most k are reachable, and each target named was 0 or reachable at that moment
@@ -18,6 +20,7 @@ use Prim.Native.Nat.{ℕ, _+_, _-_, _*_, _≤_}
 use mathlib.Core.Path.{_≡_}
 use mathlib.Core.Logic.{_≢_}
 use mathlib.Core.List.{List, [], _∷_, _++_, List·Memᴰ}
+use lib.Dec.{leb}
 use lib.ListN.{length}
 use Rattle.machine.specs.Rounding.{roundedUp}
 use Rattle.machine.specs.Registers.{idle}
@@ -36,17 +39,31 @@ use Rattle.theory_promises.specs.Sessions.{NoReset, sessionDeeds, Proper
 abbrev pub allocatedBlocks : Heap → ℕ
 allocatedBlocks h = countFrom (isAllocated (colouring h)) (h .regs .blocks) 2
 
--- the deeds ys follow the unit that starts a cycle, after the deeds xs, and start none themselves: the cycle still runs, or has just
--- ended; its units are counted over all the calls that do them
+abbrev pub blocksToMark : Heap → ℕ
+blocksToMark h = countFrom (λ b. leb b (h .regs .mark)) (h .regs .blocks) 2
+
+abbrev pub thenUnit : List Deed → List Deed
+thenUnit ys = ys ++ (aUnit ∷ [])
+
+-- "Demand 3's first bound becomes A + H + 2, H being how many blocks lie at or below the mark at the cycle's end": the end is the cycle's last
+-- unit, after which the phase is idle. The deeds ys follow the unit that starts a cycle, after the deeds xs, and start none themselves: the
+-- cycle still runs, or has ended; its units are counted over all the calls that do them.
 pub record CycleShort : Type 0 where
   -- "The count of allocated blocks is M less the free count"
   pub counted : (h : Heap) → WellFormed h → allocatedBlocks h + h .regs .count ≡ h .regs .blocks
+  -- blocks are numbered from 2 on, so H is the mark less 1, and at most M
+  pub upTo : (h : Heap) → WellFormed h → blocksToMark h + 1 ≡ h .regs .mark
+  -- at every moment, with the mark as it stands then: at the cycle's last unit this is the bound
   pub short : (h : Heap) → WellFormed h → (cs : List Call) → NoReset cs h → (xs ys zs : List Deed) → sessionDeeds cs h ≡ xs ++ (aUnit ∷ (ys ++ zs))
       → after xs h .regs .phase ≡ idle → NoBegin ys (deed aUnit (after xs h))
-      → unitsIn (aUnit ∷ ys) ≤ allocatedBlocks (after xs h) + h .regs .blocks + 2
-  pub exact : (h : Heap) → WellFormed h → (cs : List Call) → NoReset cs h → (xs ys zs : List Deed) → sessionDeeds cs h ≡ xs ++ (aUnit ∷ (ys ++ zs))
-      → after xs h .regs .phase ≡ idle → NoBegin ys (deed aUnit (after xs h)) → after ys (deed aUnit (after xs h)) .regs .phase ≡ idle
-      → unitsIn (aUnit ∷ ys) ≡ 2 + marksIn ys (deed aUnit (after xs h)) + h .regs .blocks
+      → unitsIn (aUnit ∷ ys) ≤ allocatedBlocks (after xs h) + blocksToMark (after ys (deed aUnit (after xs h))) + 2
+  -- the unit after the deeds ys is the cycle's last
+  pub exact :
+      (h : Heap) → WellFormed h → (cs : List Call) → NoReset cs h → (xs ys zs : List Deed) → sessionDeeds cs h ≡ xs ++ (aUnit ∷ (thenUnit ys ++ zs))
+      → after xs h .regs .phase ≡ idle → NoBegin (thenUnit ys) (deed aUnit (after xs h))
+      → after (thenUnit ys) (deed aUnit (after xs h)) .regs .phase ≡ idle
+      → unitsIn (aUnit ∷ thenUnit ys)
+      ≡ 2 + marksIn (thenUnit ys) (deed aUnit (after xs h)) + blocksToMark (after (thenUnit ys) (deed aUnit (after xs h)))
 
 unfoldable pub cycles : ℕ → ℕ → ℕ
 cycles m u = roundedUp (2 * m + 2) u

@@ -43,22 +43,22 @@ fresh = formatted 3 1
 
 -- 2 at the root and 3 in its word 0, to the end of the cycle, then 0 in that word
 abbrev pub leaving : List Call
-leaving = Allocate 0 0 ∷ Allocate 2 0 ∷ Work 3 ∷ StoreReference 2 0 0 ∷ []
+leaving = Allocate 0 0 ∷ Allocate 2 0 ∷ Work 2 ∷ StoreReference 2 0 0 ∷ []
 
 -- the deeds of these calls
 abbrev pub before : List Deed
 before =
-    aUnit ∷ anAct (aTake 0 0) ∷ aUnit ∷ anAct (aTake 2 0) ∷ aUnit ∷ aUnit ∷ aUnit ∷ anAct (aReference 2 0 0) ∷ []
+    aUnit ∷ anAct (aTake 0 0) ∷ aUnit ∷ anAct (aTake 2 0) ∷ aUnit ∷ aUnit ∷ anAct (aReference 2 0 0) ∷ []
 
 abbrev pub left : Heap
 left = after before fresh
 
--- what follows the unit that starts the cycle: 2 is marked, the cycle turns, three blocks are swept
+-- what follows the unit that starts the cycle: 2 is marked, the cycle turns, and two blocks are swept: the third was never used
 abbrev pub plain : List Deed
-plain = aUnit ∷ aUnit ∷ aUnit ∷ aUnit ∷ aUnit ∷ []
+plain = aUnit ∷ aUnit ∷ aUnit ∷ aUnit ∷ []
 
 pub record Freed : Type 0 where
-  pub deeds : sessionDeeds (leaving ++ Work 6 ∷ []) fresh ≡ before ++ (aUnit ∷ (plain ++ []))
+  pub deeds : sessionDeeds (leaving ++ Work 5 ∷ []) fresh ≡ before ++ (aUnit ∷ (plain ++ []))
   pub starts : left .regs .phase ≡ idle
   pub begun : NoBegin plain (deed aUnit left)
   pub ends : after plain (deed aUnit left) .regs .phase ≡ idle
@@ -69,10 +69,10 @@ pub record Freed : Type 0 where
 
 -- the cycle with a store of target 3 after its first unit: now 3 is marked too, so that it takes a unit more
 abbrev pub saving : List Deed
-saving = anAct (aReference 2 1 3) ∷ aUnit ∷ aUnit ∷ aUnit ∷ aUnit ∷ aUnit ∷ aUnit ∷ []
+saving = anAct (aReference 2 1 3) ∷ aUnit ∷ aUnit ∷ aUnit ∷ aUnit ∷ aUnit ∷ []
 
 pub record Survives : Type 0 where
-  pub deeds : sessionDeeds (leaving ++ Work 1 ∷ StoreReference 2 1 3 ∷ Work 6 ∷ []) fresh ≡ before ++ (aUnit ∷ (saving ++ []))
+  pub deeds : sessionDeeds (leaving ++ Work 1 ∷ StoreReference 2 1 3 ∷ Work 5 ∷ []) fresh ≡ before ++ (aUnit ∷ (saving ++ []))
   pub starts : left .regs .phase ≡ idle
   pub begun : NoBegin saving (deed aUnit left)
   pub ends : after saving (deed aUnit left) .regs .phase ≡ idle
@@ -134,10 +134,10 @@ byTurns (b ∷ bs) = 0 ∷ b ∷ byTurns bs
 -- the blocks that the allocations at the root give
 abbrev pub rooted : List ℕ
 rooted =
-    2 ∷ 4 ∷ 6 ∷ 2 ∷ 8 ∷ 7 ∷ 5 ∷ 2 ∷ 7 ∷ 3 ∷ 8 ∷ 2 ∷ 7 ∷ 6 ∷ 2 ∷ 8 ∷ 4 ∷ 9 ∷ 2 ∷ 7 ∷ 8 ∷ 3 ∷ 7 ∷ 5 ∷ 9 ∷
-    6 ∷ 7 ∷ 8 ∷ 2 ∷ 7 ∷ 3 ∷ 9 ∷ 2 ∷ 7 ∷ 8 ∷ 4 ∷ 7 ∷ 5 ∷ 9 ∷ 6 ∷ 7 ∷ 8 ∷ 2 ∷ 7 ∷ 4 ∷ 9 ∷ 2 ∷ 7 ∷ 8 ∷ 3 ∷
-    7 ∷ 5 ∷ 9 ∷ 6 ∷ 7 ∷ 8 ∷ 2 ∷ 7 ∷ 3 ∷ 9 ∷ 2 ∷ 7 ∷ 8 ∷ 4 ∷ 7 ∷ 5 ∷ 9 ∷ 6 ∷ 7 ∷ 8 ∷ 2 ∷ 7 ∷ 4 ∷ 9 ∷ 2 ∷
-    7 ∷ 8 ∷ 3 ∷ 7 ∷ 5 ∷ 9 ∷ 6 ∷ 7 ∷ 8 ∷ 2 ∷ 7 ∷ 3 ∷ 9 ∷ 2 ∷ 7 ∷ 8 ∷ 4 ∷ 7 ∷ 5 ∷ 9 ∷ 6 ∷ 7 ∷ 8 ∷ 2 ∷ 7 ∷ []
+    2 ∷ 4 ∷ 3 ∷ 5 ∷ 6 ∷ 2 ∷ 3 ∷ 5 ∷ 6 ∷ 4 ∷ 3 ∷ 2 ∷ 3 ∷ 5 ∷ 6 ∷ 4 ∷ 3 ∷ 2 ∷ 3 ∷ 5 ∷ 6 ∷ 4 ∷ 3 ∷ 2 ∷ 3 ∷
+    5 ∷ 6 ∷ 4 ∷ 3 ∷ 2 ∷ 3 ∷ 5 ∷ 6 ∷ 4 ∷ 3 ∷ 2 ∷ 3 ∷ 5 ∷ 6 ∷ 4 ∷ 3 ∷ 2 ∷ 3 ∷ 5 ∷ 6 ∷ 4 ∷ 3 ∷ 2 ∷ 3 ∷ 5 ∷
+    6 ∷ 4 ∷ 3 ∷ 2 ∷ 3 ∷ 5 ∷ 6 ∷ 4 ∷ 3 ∷ 2 ∷ 3 ∷ 5 ∷ 6 ∷ 4 ∷ 3 ∷ 2 ∷ 3 ∷ 5 ∷ 6 ∷ 4 ∷ 3 ∷ 2 ∷ 3 ∷ 5 ∷ 6 ∷
+    4 ∷ 3 ∷ 2 ∷ 3 ∷ 5 ∷ 6 ∷ 4 ∷ 3 ∷ 2 ∷ 3 ∷ 5 ∷ 6 ∷ 4 ∷ 3 ∷ 2 ∷ 3 ∷ 5 ∷ 6 ∷ 4 ∷ 3 ∷ 2 ∷ 3 ∷ 5 ∷ 6 ∷ 4 ∷ []
 
 abbrev pub long : List Call
 long = churn (byTurns rooted)
@@ -180,9 +180,9 @@ pub record Restored : Type 0 where
   pub reached : Reachable loaded 2
   pub spared : (n j : ℕ) → IsFree (after (take j (deeds (Work n) loaded)) loaded) 2 → ⊥
 
--- all ten blocks taken ahead of the sweep and let go: it has still to pass them, and none is free
+-- all ten blocks taken while the collector marks, and let go: the sweep has still to pass them, and none is free
 abbrev pub full : Heap
-full = session (AllocateChain 0 0 10 ∷ SetRoot 0 ∷ []) (formatted 10 5)
+full = session (Work 1 ∷ AllocateChain 0 0 10 ∷ SetRoot 0 ∷ []) (formatted 10 5)
 
 -- "demand 3 doesn't, as its heap is fresh": all its other premises are met
 pub record Crowded : Type 0 where

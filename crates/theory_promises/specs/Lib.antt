@@ -10,3 +10,4 @@ pub mod Demand2
 pub mod Demand3
 pub mod View
 pub mod Instances
+pub mod CycleInstances

@@ -1,6 +1,6 @@
 -- The machine's heap as the abstract collector sees it, and what is the layout's own.
 --     tintOf c             a colour without its layout
---     view h               the abstract heap of h: phase, position, root, a colour for each block, its words and reference bits
+--     view h               the abstract heap of h: phase, position, root, mark, a colour for each block, its words and reference bits
 --     Shape h              what a well-formed heap has besides a sound view: legal registers and colours, and the two lists
 -- Assumes nothing.
 use Prim.Native.Nat.{ℕ}
@@ -35,6 +35,7 @@ view h =
       phase = h .regs .phase;
       position = h .regs .position;
       root = h .regs .root;
+      mark = h .regs .mark;
       tint = λ b. tintOf (colourOf h b);
       word = λ b w. if leb w 7 then wordOf (h .words) b w else 0;
       isRef = λ b w. leb w 7 && bit (byteOf (h .bytes) b) w;

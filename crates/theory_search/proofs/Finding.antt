@@ -21,7 +21,7 @@ use Rattle.machine.specs.Lists.{countFrom}
 use Rattle.machine.specs.Search.{Found, found, cameTo, onward, begun, search}
 use Rattle.machine.proofs.Tests.{by-test, by-eq, clash}
 use Rattle.machine.proofs.Blocks.{isBlock-block, block-isBlock}
-use Rattle.machine.proofs.Listing.{Distinct}
+use Rattle.machine.specs.Lists.{Distinct}
 use Rattle.machine.proofs.Counting.{among, count-le, count-among}
 use Rattle.theory_reach.specs.Listed.{In}
 use Rattle.theory_search.proofs.Rising.{Rising, none, next, rising-before, rising-after, rising-up, rising-distinct}

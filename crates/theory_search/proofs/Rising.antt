@@ -12,7 +12,7 @@ use mathlib.Core.Path.{_≡_, refl, sym, _∙_}
 use mathlib.Core.Logic.{⊎-elim}
 use mathlib.Core.List.{List, [], _∷_, _++_, List·Memᴰ·head, List·Memᴰ·tail, List·Memᴰ·not-nil, List·Memᴰ·cases-cons, Memᴰ·append-right}
 use native.Mathlib.Omega.{arith}
-use Rattle.machine.proofs.Listing.{Distinct, empty, more}
+use Rattle.machine.specs.Lists.{Distinct, empty, more}
 use Rattle.theory_reach.specs.Listed.{In}
 
 pub data Rising (code : ℕ → ℕ) : ℕ → List ℕ → ℕ → Type 0 where

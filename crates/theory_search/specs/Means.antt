@@ -10,7 +10,7 @@ use mathlib.Core.List.{List, []}
 use lib.ListN.{length}
 use Rattle.machine.specs.WellFormed.{Block}
 use Rattle.machine.specs.Search.{Hop, cameTo, search, pathTo}
-use Rattle.machine.proofs.Listing.{Distinct}
+use Rattle.machine.specs.Lists.{Distinct}
 use Rattle.theory_reach.specs.Listed.{In}
 use Rattle.theory_search.specs.Leads.{Leads, NoLater}
 

@@ -20,7 +20,7 @@ use Rattle.machine.specs.WellFormed.{Coloured, Live}
 use Rattle.machine.specs.Search.{Hop, searchOf}
 use Rattle.machine.specs.Tell.{stateNumber}
 use Rattle.machine.specs.Why.{pathOf, reasonOf, keptNumber}
-use Rattle.machine.proofs.Listing.{Distinct}
+use Rattle.machine.specs.Lists.{Distinct}
 use Rattle.theory_promises.specs.Reachable.{Reachable}
 use Rattle.theory_why.specs.Leads.{Leads, NoLater}
 

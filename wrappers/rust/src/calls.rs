@@ -87,7 +87,7 @@ writing! {
     export_objects = dergamoyne_export_objects(start, fields, link);
 }
 
-/// Save: the image of the heap to the front of out: 52 + 37M bytes. What is past the image stays as it was.
+/// Save: the image of the heap to the front of out: 56 + 37M bytes. What is past the image stays as it was.
 pub fn save(regs: Regs, words: &[u32], colours: &[u32], bytes: &[u8], out: &mut [u8]) -> Answer {
     // SAFETY: the pointers and lengths are those of live slices of the right types; out is lent to change, so it overlaps none of them.
     unsafe {
@@ -105,7 +105,8 @@ pub fn save(regs: Regs, words: &[u32], colours: &[u32], bytes: &[u8], out: &mut 
     }
 }
 
-/// Load: the record and the buffers become the heap of the image. What they held is not looked at.
+/// Load: the record and the buffers become the heap of the image, also of one that a version before 0.7.0 wrote, 52 + 37M bytes. What
+/// they held is not looked at.
 pub fn load(regs: &mut Regs, words: &mut [u32], colours: &mut [u32], bytes: &mut [u8], image: &[u8]) -> Answer {
     // SAFETY: the pointers and lengths are those of live slices of the right types, which don't overlap.
     unsafe {

@@ -7,8 +7,9 @@ use std::fmt;
 /// The largest M.
 const MOST_BLOCKS: u32 = 16384;
 
-/// The bytes of an image that are of no block, and those of each block.
-const IMAGE_FIXED: usize = 52;
+/// The bytes of an image that are of no block, those of one that a version before 0.7.0 wrote, without the mark, and those of each block.
+const IMAGE_FIXED: usize = 56;
+const EARLIER_FIXED: usize = 52;
 const IMAGE_BLOCK: usize = 37;
 
 /// A heap of M blocks, with its record and its three buffers: 37M bytes of memory.
@@ -132,12 +133,13 @@ impl Heap {
         call(&mut self.regs, &mut self.words, &mut self.colours, &mut self.bytes)
     }
 
-    /// The heap of an image: exactly the one that was saved. Refusal 10 where the bytes are not the image of a well-formed heap, or
-    /// something comes after it. Panics where the library that is linked is of another version than this crate.
+    /// The heap of an image: exactly the one that was saved. One that a version before 0.7.0 saved has no mark, and gets the highest
+    /// there can be. Refusal 10 where the bytes are not the image of a well-formed heap, or something comes after it. Panics where the library that is linked is of another version than this crate.
     pub fn load(image: &[u8]) -> Result<Heap, Refused> {
         assert!(calls::fits_library(), "libdergamoyne.a is of another version than this crate");
-        // Of a length that no image has nothing is lent: the call then refuses the image.
-        let n = image.len().saturating_sub(IMAGE_FIXED) / IMAGE_BLOCK;
+        // Of a length that no image has nothing is lent: the call then refuses the image. Rounded down, the shorter form tells the
+        // blocks of both: they differ by less than a block.
+        let n = image.len().saturating_sub(EARLIER_FIXED) / IMAGE_BLOCK;
         let n = if n <= MOST_BLOCKS as usize { n } else { 0 };
         let mut h = Heap { regs: Regs::default(), words: vec![0; 8 * n], colours: vec![0; n], bytes: vec![0; n] };
         done(h.changed(|r, w, c, b| calls::load(r, w, c, b, image)))?;

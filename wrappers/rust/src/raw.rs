@@ -1,8 +1,9 @@
 //! The library's records and functions as they are declared in include/dergamoyne.h.
 
 /// The register record: M, U, the collector's phase, the first grey and the first free block, how many are free, where the sweep
-/// stands, the root, and how many cycles were begun. Registers will be added in later versions: start with
-/// `Regs::default()`, and compile again for the version that you link.
+/// stands, the root, how many cycles were begun, and the mark: the highest block handed out since Format, 1 if there is none, after
+/// which the sweep ends. Registers will be added in later versions: start with `Regs::default()`, and compile again for the version
+/// that you link.
 #[repr(C)]
 #[derive(Clone, Copy, Debug, Default, PartialEq, Eq)]
 pub struct Regs {
@@ -15,6 +16,7 @@ pub struct Regs {
     pub position: u32,
     pub root: u32,
     pub cycle: u32,
+    pub mark: u32,
 }
 
 /// What most calls answer: a refusal number or 0, a value (0 if none), and the units done.
@@ -66,7 +68,7 @@ pub struct WhyAnswer {
 }
 
 /// The version of the library that this crate is for, as `dergamoyne_version` gives it.
-pub const VERSION: u32 = 6000;
+pub const VERSION: u32 = 7000;
 
 // The library is for processors with lengths of 64 bits.
 const _: () = assert!(std::mem::size_of::<usize>() == 8);

@@ -95,19 +95,22 @@ fn look_and_numbers() {
     assert_eq!(h.look(3), Err(by(Refusal::BlockGone)));
 }
 
-/// Each state, on the listing's heap and on a damaged one; of any number.
+/// Each state, in the sweep of the listing's second cycle and on a damaged heap; of any number.
 #[test]
 fn states() {
     let mut h = Heap::new(3, 1).unwrap();
     assert_eq!(h.state(2), Ok(State::Free));
     h.allocate(0, 0).unwrap();
     assert_eq!(h.state(2), Ok(State::Black));
-    let mut h = seven_lines();
+    h.allocate(2, 0).unwrap();
+    h.work(3).unwrap();
+    h.store_reference(2, 0, 0).unwrap();
+    h.work(3).unwrap();
     let found: Vec<_> = [0, 1, 2, 3, 4, 5, u32::MAX].map(|b| h.state(b).unwrap()).into();
     let (outside, none) = (State::Outside, State::Free);
     assert_eq!(found, [outside, outside, State::LiveWhite, State::Doomed, none, outside, outside]);
     assert_eq!(found.iter().filter(|s| s.is_live()).count(), 1);
-    h.work(3).unwrap();
+    h.work(2).unwrap();
     assert_eq!((h.state(2), h.state(3)), (Ok(State::Grey), Ok(State::Free)));
     let (regs, words, bytes) = (h.regs(), [0; 24], [0; 3]);
     let told = |regs, colours: &[u32]| {
@@ -140,7 +143,7 @@ fn whys() {
     h.store_reference(2, 1, 0).unwrap();
     h.store_reference(2, 6, 0).unwrap();
     assert_eq!(h.why(3), Ok(Why::Kept(State::Black)));
-    h.work(3).unwrap();
+    h.work(2).unwrap();
     assert_eq!(h.why(3), Ok(Why::Kept(State::LiveWhite)));
     h.work(3).unwrap();
     assert_eq!(h.why(3), Ok(Why::Doomed));
@@ -151,7 +154,7 @@ fn whys() {
 /// The list 2, 3 while marking: the numbers, the buffers afterwards, and the refusals in order.
 #[test]
 fn whys_over_slices() {
-    let regs = Regs { blocks: 2, phase: 1, grey: 2, root: 2, ..Regs::default() };
+    let regs = Regs { blocks: 2, phase: 1, grey: 2, root: 2, mark: 3, ..Regs::default() };
     let (mut words, bytes, mut path, mut queue, mut came) = ([0; 16], [16, 0], [7; 5], [7; 3], [7; 2]);
     words[4] = 3;
     let mut why = |regs, colours: &[u32], path: &mut [u32], queue: &mut [u32], b| {
@@ -248,12 +251,14 @@ fn images() {
     h.store_reference(2, 0, 2).unwrap();
     h.store_number(2, 1, 0x01020304).unwrap();
     let image = h.save();
-    let mut dump = [0; 89];
-    for (at, byte) in [(0, 9), (4, 1), (8, 1), (12, 1), (16, 1), (32, 2), (36, 1), (40, 1), (48, 1), (52, 1), (53, 8), (57, 2)] {
+    let mut dump = [0; 93];
+    for (at, byte) in
+        [(0, 10), (4, 1), (8, 1), (12, 1), (16, 1), (32, 2), (36, 1), (40, 2), (44, 1), (52, 1), (56, 1), (57, 8), (61, 2)]
+    {
         dump[at] = byte;
     }
-    dump[44..48].fill(255);
-    dump[61..65].copy_from_slice(&[4, 3, 2, 1]);
+    dump[48..52].fill(255);
+    dump[65..69].copy_from_slice(&[4, 3, 2, 1]);
     assert_eq!(image, dump);
     let mut spare = Heap::load(&image).unwrap();
     assert_eq!((spare.regs(), spare.look(2)), (h.regs(), h.look(2)));
@@ -262,7 +267,7 @@ fn images() {
         assert!(heap.audit());
     }
     assert_eq!(h.save(), spare.save());
-    for length in 0..89 {
+    for length in 0..93 {
         assert_eq!(Heap::load(&image[..length]).unwrap_err(), by(Refusal::NotWellFormed));
     }
     assert_eq!(Heap::load(&[&image[..], &[0]].concat()).unwrap_err(), by(Refusal::NotWellFormed));
@@ -270,16 +275,50 @@ fn images() {
     let mut load = |image: &[u8], colours: &mut [u32]| calls::load(&mut regs, &mut words, colours, &mut bytes, image).refusal;
     assert_eq!((load(&image, &mut colours), load(&[], &mut colours)), (13, 10));
     assert_eq!(load(&image, &mut colours[..1]), 0);
-    let mut out = [7; 91];
-    assert_eq!(calls::save(regs, &words, &colours[..1], &bytes, &mut out[..88]).refusal, 13);
-    assert_eq!(out, [7; 91]);
+    let mut out = [7; 95];
+    assert_eq!(calls::save(regs, &words, &colours[..1], &bytes, &mut out[..92]).refusal, 13);
+    assert_eq!(out, [7; 95]);
     assert_eq!(calls::save(regs, &words, &colours[..1], &bytes, &mut out).refusal, 0);
-    assert_eq!((&out[..89], &out[89..]), (&image[..], &[7; 2][..]));
+    assert_eq!((&out[..93], &out[93..]), (&image[..], &[7; 2][..]));
     assert_eq!(calls::save(Regs { phase: 3, ..regs }, &words, &colours[..1], &bytes, &mut out).refusal, 10);
     assert_eq!(calls::save(regs, &words, &colours, &bytes, &mut out).refusal, 1);
     for n in [1, 2, 3, 4, 5, 6, 7, 8, 9, 10, 13] {
         assert_eq!(Refusal::of(n).unwrap().number(), n);
     }
+}
+
+/// An image of nine registers, as versions before 0.7.0 wrote it, loads with the mark at M + 1 and is saved with ten.
+#[test]
+fn earlier_images() {
+    let mut h = Heap::new(3, 1).unwrap();
+    h.allocate(0, 0).unwrap();
+    h.allocate(2, 0).unwrap();
+    let image = h.save();
+    let earlier = [&[9][..], &image[1..40], &image[44..]].concat();
+    assert_eq!((image.len(), earlier.len(), h.regs().mark), (167, 163, 3));
+    let spare = Heap::load(&earlier).unwrap();
+    assert_eq!(spare.regs(), Regs { mark: 4, ..h.regs() });
+    assert_eq!((spare.look(2), spare.look(3)), (h.look(2), h.look(3)));
+    let again = spare.save();
+    assert_eq!((again[0], again[40], &again[44..]), (10, 4, &image[44..]));
+    assert_eq!(Heap::load(&earlier[..162]).unwrap_err(), by(Refusal::NotWellFormed));
+    assert_eq!(Heap::load(&[&earlier[..], &[0]].concat()).unwrap_err(), by(Refusal::NotWellFormed));
+}
+
+/// A small report on the largest heap: a cycle marks its blocks and sweeps those that were handed out.
+#[test]
+fn small_report() {
+    let mut h = Heap::new(16384, 1).unwrap();
+    assert_eq!(h.regs().mark, 1);
+    for b in 1..11 {
+        h.allocate(if b == 1 { 0 } else { b }, 0).unwrap();
+    }
+    while h.regs().phase != 0 {
+        h.work(1).unwrap();
+    }
+    let cycle = h.regs().cycle;
+    h.work(2 + 10 + 10).unwrap();
+    assert_eq!((h.regs().mark, h.regs().phase, h.regs().cycle), (11, 0, cycle + 1));
 }
 
 /// Heaps in different threads don't meet.
@@ -305,6 +344,6 @@ fn threads() {
 /// The library is the one that the crate is for.
 #[test]
 fn version() {
-    assert_eq!(calls::version(), 6000);
+    assert_eq!(calls::version(), 7000);
     assert!(calls::fits_library());
 }

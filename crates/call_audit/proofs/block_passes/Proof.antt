@@ -42,8 +42,8 @@ passes-asked-requires c κs = search needs
 returns : tie.Need-returns
 returns c =
     let c-args = c .before .before .before .before .before .before .before .before .args in
-    block-as _ _ _ _ _ (c .before .before .state-of .ensures (c-args .r) refl refl refl) (part-is (c-args .words .now) (c-args .b))
-    (c .passes-asked .ensures ∙ c .before .ask .ensures (c-args .r) _ refl refl)
+    let state = c .before .before .state-of .ensures (c-args .r) refl refl refl in
+    block-as _ _ _ _ _ state (part-is (c-args .words .now) (c-args .b)) (c .passes-asked .ensures ∙ c .before .ask .ensures (c-args .r) _ refl refl refl state)
 
 pub block-passes-spec : {M : Type 1} → statement M
 block-passes-spec =

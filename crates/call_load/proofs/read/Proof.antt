@@ -6,9 +6,6 @@ use borrow.Author.Needs.{needs}
 use Rattle.call_load.proofs.read.Statement.{statement}
 use Rattle.call_load.proofs.read.Tie as tie
 
-add-get-fours : tie.Need-add-get-fours
-add-get-fours c = search needs
-
 get-fours-requires : tie.Need-get-fours-requires
 get-fours-requires c κs = let l = laid-length (c .before .before .before .before .before .pre .0) in search needs
 
@@ -24,8 +21,8 @@ get-bytes-requires c κs = let l = laid-length (c .before .before .before .befor
 words-at-requires : tie.Need-words-at-requires
 words-at-requires c κs = search needs
 
-add-get-fours-2 : tie.Need-add-get-fours-2
-add-get-fours-2 c = search needs
+add-get-fours : tie.Need-add-get-fours
+add-get-fours c = search needs
 
 get-fours-requires-2 : tie.Need-get-fours-requires-2
 get-fours-requires-2 c κs = let l = laid-length (c .before .before .before .before .before .before .before .before .before .before .before .before .before .before .before .pre .0) in search needs
@@ -53,13 +50,12 @@ pub read-spec : {M : Type 1} → statement M
 read-spec =
     tie.close
     (tie.spec
-    add-get-fours
     get-fours-requires
     bytes-at-requires
     add-get-bytes
     get-bytes-requires
     words-at-requires
-    add-get-fours-2
+    add-get-fours
     get-fours-requires-2
     same-length
     same-length-2

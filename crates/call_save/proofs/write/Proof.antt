@@ -16,11 +16,17 @@ put-numbers-requires c κs = search needs
 bytes-at-requires : tie.Need-bytes-at-requires
 bytes-at-requires c κs = search needs
 
+add-put-singles : tie.Need-add-put-singles
+add-put-singles c = search needs
+
 put-singles-requires : tie.Need-put-singles-requires
 put-singles-requires c κs = search needs
 
 words-at-requires : tie.Need-words-at-requires
 words-at-requires c κs = search needs
+
+add-put-numbers : tie.Need-add-put-numbers
+add-put-numbers c = search needs
 
 put-numbers-requires-2 : tie.Need-put-numbers-requires-2
 put-numbers-requires-2 c κs = search needs
@@ -44,8 +50,10 @@ write-spec =
     put-registers-requires
     put-numbers-requires
     bytes-at-requires
+    add-put-singles
     put-singles-requires
     words-at-requires
+    add-put-numbers
     put-numbers-requires-2
     same-length
     returns)

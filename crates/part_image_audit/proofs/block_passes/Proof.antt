@@ -64,8 +64,9 @@ returns c =
     let c-bytes-at = c-words-at .before .before .before in
     let c-start = c-bytes-at .before .before .before in
     let r = c-start .args .r in
-    block-as _ _ _ _ _ (c-words-at .before .state-of .ensures) (eight-laid (c-start .pre .0) (c-start .pre .1) (c-words-at .words-at .ensures) (c .before .before .before .before .before .get-fours .ensures))
-    (rw (← byte-laid (c-start .pre .0) (c-start .pre .1) (c-bytes-at .bytes-at .ensures)) (c .passes-asked .ensures ∙ c .before .before .ask .ensures r _ refl refl))
+    let state = c-words-at .before .state-of .ensures in
+    block-as _ _ _ _ _ state (eight-laid (c-start .pre .0) (c-start .pre .1) (c-words-at .words-at .ensures) (c .before .before .before .before .before .get-fours .ensures))
+    (rw (← byte-laid (c-start .pre .0) (c-start .pre .1) (c-bytes-at .bytes-at .ensures)) (c .passes-asked .ensures ∙ c .before .before .ask .ensures r _ refl refl refl state))
 
 pub block-passes-spec : {M : Type 1} → statement M
 block-passes-spec =

@@ -4,18 +4,17 @@ use native.Mathlib.Omega.{arith}
 use Prim.Native.Nat.{_+_, _-_, _≤_}
 use mathlib.Core.Path.{_≡_}
 use Rattle.machine.proofs.Tests.{so}
-use Rattle.machine.specs.Heap.{heap}
-use Rattle.machine.specs.Image.{decode}
+use Rattle.machine.specs.Image.{heapIn}
 use Rattle.machine.specs.Audit.{allFrom, blockPasses}
 use Rattle.machine.proofs.Audits.{all-start, all-on, all-off, all-end}
 use Rattle.part_image_audit.proofs.blocks_pass.Statement.{statement}
 use Rattle.part_image_audit.proofs.blocks_pass.Tie as tie
 
 abbrev Inv-loop : tie.InvT-loop
-Inv-loop r image m b₀ b = (2 ≤ b) × (b ≤ m + 2) × (allFrom (blockPasses (heap r (decode image .words) (decode image .colours) (decode image .bytes))) m 2 ≡ allFrom (blockPasses (heap r (decode image .words) (decode image .colours) (decode image .bytes))) (m + 2 - b) b)
+Inv-loop r sections m b₀ b = (2 ≤ b) × (b ≤ m + 2) × (allFrom (blockPasses (heapIn r sections)) m 2 ≡ allFrom (blockPasses (heapIn r sections)) (m + 2 - b) b)
 
 abbrev μ-loop : tie.MeasureT-loop
-μ-loop r image m b₀ b = m + 2 - b
+μ-loop r sections m b₀ b = m + 2 - b
 
 loop-holds : tie.Need-loop-holds Inv-loop μ-loop
 loop-holds c = (search needs, search needs, all-start _ _)

@@ -4,7 +4,7 @@ use mathlib.Core.Path.{_≡_, refl, sym, _∙_}
 use native.Mathlib.Omega.{arith}
 use Rattle.machine.specs.Block.{references}
 use Rattle.machine.specs.Colouring.{coloured}
-use Rattle.machine.specs.Image.{decode}
+use Rattle.machine.specs.Image.{coloursIn}
 use Rattle.machine.specs.Audit.{mayNameAll}
 use Rattle.machine.proofs.Tests.{so}
 use Rattle.machine.proofs.LowestBit.{lowest-within, lowest-sub, lowest-less}
@@ -14,11 +14,11 @@ use Rattle.part_image_audit.proofs.may_name_all.Statement.{statement}
 use Rattle.part_image_audit.proofs.may_name_all.Tie as tie
 
 abbrev Inv-loop : tie.InvT-loop
-Inv-loop r image strict part byte rest₀ rest =
-    (rest < 256) × (mayNameAll r (coloured (r .blocks) (r .grey) (decode image .colours)) strict (references part byte) ≡ mayNameAll r (coloured (r .blocks) (r .grey) (decode image .colours)) strict (references part rest))
+Inv-loop r sections strict part byte rest₀ rest =
+    (rest < 256) × (mayNameAll r (coloured (r .blocks) (r .grey) (coloursIn sections)) strict (references part byte) ≡ mayNameAll r (coloured (r .blocks) (r .grey) (coloursIn sections)) strict (references part rest))
 
 abbrev μ-loop : tie.MeasureT-loop
-μ-loop r image strict part byte rest₀ rest = rest
+μ-loop r sections strict part byte rest₀ rest = rest
 
 loop-holds : tie.Need-loop-holds Inv-loop μ-loop
 loop-holds c = (c .before .before .fits .byte .fits, refl)
@@ -57,17 +57,17 @@ loop-again c =
     let c-loop = c .before .before .before .before .loop in
     let n = c .before .before .before .loop-test .taken in
     let l = lowest-less _ _ (c-loop .inv .0) n refl in
-    (omega arith, c-loop .inv .1 ∙ names-on (c-args .r) (coloured (c-args .r .blocks) (c-args .r .grey) (decode (c-args .image .now) .colours)) (c-args .strict) (c-args .part .now) _ _ (c-loop .inv .0) n refl (so (c .before .may-name .ensures) (c .if1 .taken)))
+    (omega arith, c-loop .inv .1 ∙ names-on (c-args .r) (coloured (c-args .r .blocks) (c-args .r .grey) (coloursIn (c-args .sections .now))) (c-args .strict) (c-args .part .now) _ _ (c-loop .inv .0) n refl (so (c .before .may-name .ensures) (c .if1 .taken)))
 
 returns : tie.Need-returns Inv-loop μ-loop
 returns c =
     let c-args = c .before .before .before .before .before .before .before .args in
     let c-loop = c .before .before .before .before .loop in
     let n = c .before .before .before .loop-test .taken in
-    sym (c-loop .inv .1 ∙ names-off (c-args .r) (coloured (c-args .r .blocks) (c-args .r .grey) (decode (c-args .image .now) .colours)) (c-args .strict) (c-args .part .now) _ _ (c-loop .inv .0) n refl (so (c .before .may-name .ensures) (c .if1 .left)))
+    sym (c-loop .inv .1 ∙ names-off (c-args .r) (coloured (c-args .r .blocks) (c-args .r .grey) (coloursIn (c-args .sections .now))) (c-args .strict) (c-args .part .now) _ _ (c-loop .inv .0) n refl (so (c .before .may-name .ensures) (c .if1 .left)))
 
 returns-2 : tie.Need-returns-2 Inv-loop μ-loop
-returns-2 c = let c-args = c .before .before .before .before .args in sym (c .before .loop .inv .1 ∙ names-end (c-args .r) (coloured (c-args .r .blocks) (c-args .r .grey) (decode (c-args .image .now) .colours)) (c-args .strict) (c-args .part .now) _ (c .loop-test .left))
+returns-2 c = let c-args = c .before .before .before .before .args in sym (c .before .loop .inv .1 ∙ names-end (c-args .r) (coloured (c-args .r .blocks) (c-args .r .grey) (coloursIn (c-args .sections .now))) (c-args .strict) (c-args .part .now) _ (c .loop-test .left))
 
 pub may-name-all-spec : {M : Type 1} → statement M
 may-name-all-spec =

@@ -3,7 +3,7 @@ use borrow.Author.Needs.{needs}
 use native.Mathlib.Omega.{arith}
 use Prim.Native.Nat.{_+_, _-_, _≤_}
 use mathlib.Core.Path.{_≡_}
-use Rattle.machine.specs.Image.{decode}
+use Rattle.machine.specs.Image.{coloursIn}
 use Rattle.machine.specs.Lists.{countFrom}
 use Rattle.machine.specs.Colouring.{coloured, isGrey}
 use Rattle.machine.proofs.Audits.{count-start, count-on, count-end, one-most}
@@ -11,10 +11,10 @@ use Rattle.part_image_lists.proofs.count_greys.Statement.{statement}
 use Rattle.part_image_lists.proofs.count_greys.Tie as tie
 
 abbrev Inv-loop : tie.InvT-loop
-Inv-loop m head image n₀ b₀ n b = (2 ≤ b) × (b ≤ m + 2) × (n ≤ b) × (countFrom (isGrey (coloured m head (decode image .colours))) m 2 ≡ n + countFrom (isGrey (coloured m head (decode image .colours))) (m + 2 - b) b)
+Inv-loop m head sections n₀ b₀ n b = (2 ≤ b) × (b ≤ m + 2) × (n ≤ b) × (countFrom (isGrey (coloured m head (coloursIn sections))) m 2 ≡ n + countFrom (isGrey (coloured m head (coloursIn sections))) (m + 2 - b) b)
 
 abbrev μ-loop : tie.MeasureT-loop
-μ-loop m head image n₀ b₀ n b = m + 2 - b
+μ-loop m head sections n₀ b₀ n b = m + 2 - b
 
 loop-holds : tie.Need-loop-holds Inv-loop μ-loop
 loop-holds c = (search needs, search needs, search needs, count-start _ _)

@@ -4,7 +4,7 @@ use native.Mathlib.Omega.{arith}
 use Prim.Native.Nat.{_-_}
 use mathlib.Core.Path.{_≡_, refl}
 use Rattle.machine.proofs.Tests.{so}
-use Rattle.machine.specs.Image.{decode}
+use Rattle.machine.specs.Image.{coloursIn, wordsIn}
 use Rattle.machine.specs.Block.{wordOf}
 use Rattle.machine.specs.Lists.{walk}
 use Rattle.machine.specs.Colouring.{coloured, isFree}
@@ -14,11 +14,11 @@ use Rattle.part_image_lists.proofs.walk_frees.Statement.{statement}
 use Rattle.part_image_lists.proofs.walk_frees.Tie as tie
 
 abbrev Inv-loop : tie.InvT-loop
-Inv-loop r image a₀ left₀ a left =
-    walk (isFree (coloured (r .blocks) (r .grey) (decode image .colours))) (λ b. wordOf (decode image .words) b 0) 0 (r .count) (r .free) ≡ walk (isFree (coloured (r .blocks) (r .grey) (decode image .colours))) (λ b. wordOf (decode image .words) b 0) 0 left a
+Inv-loop r sections a₀ left₀ a left =
+    walk (isFree (coloured (r .blocks) (r .grey) (coloursIn sections))) (λ b. wordOf (wordsIn sections) b 0) 0 (r .count) (r .free) ≡ walk (isFree (coloured (r .blocks) (r .grey) (coloursIn sections))) (λ b. wordOf (wordsIn sections) b 0) 0 left a
 
 abbrev μ-loop : tie.MeasureT-loop
-μ-loop r image a₀ left₀ a left = left
+μ-loop r sections a₀ left₀ a left = left
 
 loop-holds : tie.Need-loop-holds Inv-loop μ-loop
 loop-holds c = refl
@@ -30,7 +30,7 @@ link-of-requires : tie.Need-link-of-requires Inv-loop μ-loop
 link-of-requires c κs =
     let c-pre = c .before .before .before .before .before .pre in
     let c-args = c .before .before .before .before .before .args in
-    (c-pre, free-block (coloured (c-args .r .blocks) (c-args .r .grey) (decode (c-args .image .now) .colours)) _ (so (c .before .is-free .ensures _) (c .if1 .taken)))
+    (c-pre, free-block (coloured (c-args .r .blocks) (c-args .r .grey) (coloursIn (c-args .sections .now))) _ (so (c .before .is-free .ensures _) (c .if1 .taken)))
 
 sub-left : tie.Need-sub-left Inv-loop μ-loop
 sub-left c = search needs

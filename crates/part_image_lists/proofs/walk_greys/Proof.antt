@@ -4,7 +4,7 @@ use native.Mathlib.Omega.{arith}
 use Prim.Native.Nat.{_-_}
 use mathlib.Core.Path.{_≡_, refl}
 use Rattle.machine.proofs.Tests.{so}
-use Rattle.machine.specs.Image.{decode}
+use Rattle.machine.specs.Image.{coloursIn}
 use Rattle.machine.specs.Lists.{walk}
 use Rattle.machine.specs.Colouring.{coloured, wordIn, isGrey}
 use Rattle.machine.proofs.Passing.{grey-block}
@@ -13,11 +13,11 @@ use Rattle.part_image_lists.proofs.walk_greys.Statement.{statement}
 use Rattle.part_image_lists.proofs.walk_greys.Tie as tie
 
 abbrev Inv-loop : tie.InvT-loop
-Inv-loop m head image n a₀ left₀ a left =
-    walk (isGrey (coloured m head (decode image .colours))) (wordIn (coloured m head (decode image .colours))) 1 n head ≡ walk (isGrey (coloured m head (decode image .colours))) (wordIn (coloured m head (decode image .colours))) 1 left a
+Inv-loop m head sections n a₀ left₀ a left =
+    walk (isGrey (coloured m head (coloursIn sections))) (wordIn (coloured m head (coloursIn sections))) 1 n head ≡ walk (isGrey (coloured m head (coloursIn sections))) (wordIn (coloured m head (coloursIn sections))) 1 left a
 
 abbrev μ-loop : tie.MeasureT-loop
-μ-loop m head image n a₀ left₀ a left = left
+μ-loop m head sections n a₀ left₀ a left = left
 
 loop-holds : tie.Need-loop-holds Inv-loop μ-loop
 loop-holds c = refl
@@ -29,7 +29,7 @@ word-of-requires : tie.Need-word-of-requires Inv-loop μ-loop
 word-of-requires c κs =
     let c-pre = c .before .before .before .before .before .pre in
     let c-args = c .before .before .before .before .before .args in
-    (c-pre, grey-block (coloured (c-args .m) (c-args .head) (decode (c-args .image .now) .colours)) _ (so (c .before .is-grey .ensures _) (c .if1 .taken)))
+    (c-pre, grey-block (coloured (c-args .m) (c-args .head) (coloursIn (c-args .sections .now))) _ (so (c .before .is-grey .ensures _) (c .if1 .taken)))
 
 sub-left : tie.Need-sub-left Inv-loop μ-loop
 sub-left c = search needs

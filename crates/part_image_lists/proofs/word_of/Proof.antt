@@ -5,17 +5,14 @@ use Rattle.part_image_lists.proofs.Laid.{laid-length, colour-laid}
 use Rattle.part_image_lists.proofs.word_of.Statement.{statement}
 use Rattle.part_image_lists.proofs.word_of.Tie as tie
 
-add-number-at : tie.Need-add-number-at
-add-number-at c = search needs
-
 sub-number-at : tie.Need-sub-number-at
 sub-number-at c = search needs
 
 mul-number-at : tie.Need-mul-number-at
 mul-number-at c = search needs
 
-add-number-at-2 : tie.Need-add-number-at-2
-add-number-at-2 c = search needs
+add-number-at : tie.Need-add-number-at
+add-number-at c = search needs
 
 number-at-requires : tie.Need-number-at-requires
 number-at-requires c κs = let l = laid-length (c .before .pre .0) in omega arith
@@ -26,4 +23,4 @@ returns c = colour-laid (c .before .before .pre .0) (c .before .before .pre .1) 
 pub word-of-spec : {M : Type 1} → statement M
 word-of-spec =
     tie.close
-    (tie.spec add-number-at sub-number-at mul-number-at add-number-at-2 number-at-requires returns)
+    (tie.spec sub-number-at mul-number-at add-number-at number-at-requires returns)

@@ -6,7 +6,7 @@ use Rattle.part_sweep.proofs.settled.Statement.{statement}
 use Rattle.part_sweep.proofs.settled.Tie as tie
 
 sweep-end-requires : tie.Need-sweep-end-requires
-sweep-end-requires c κs = search needs
+sweep-end-requires c κs = tt
 
 add-if1 : tie.Need-add-if1
 add-if1 c = search needs

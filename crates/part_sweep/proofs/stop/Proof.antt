@@ -5,7 +5,7 @@ use Rattle.part_sweep.proofs.stop.Statement.{statement}
 use Rattle.part_sweep.proofs.stop.Tie as tie
 
 sweep-end-requires : tie.Need-sweep-end-requires
-sweep-end-requires c κs = search needs
+sweep-end-requires c κs = tt
 
 add-past : tie.Need-add-past
 add-past c = search needs

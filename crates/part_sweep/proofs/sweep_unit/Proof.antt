@@ -1,5 +1,6 @@
 -- `part_sweep::sweep_unit` meets its contract: a law for each step. Assumes nothing.
 use mathlib.Core.Path.{refl, ap}
+use native.Mathlib.Omega.{arith}
 use Rattle.machine.specs.OneUnit.{finish, act, ended, passed}
 use Rattle.machine.proofs.Blocks.{block-as}
 use Rattle.machine.proofs.Running.{met-sweeping, unit-by, sweeps-block}
@@ -39,7 +40,9 @@ enum-told-3 c = search needs
 onward-requires : tie.Need-onward-requires
 onward-requires c κs =
     let c-pre = c .before .before .before .before .before .before .before .before .pre in
-    (c-pre .0 .most, (sweeps-block _ (c-pre .0) (c-pre .1)) .high)
+    let m = c-pre .0 .most in
+    let b = sweeps-block _ (c-pre .0) (c-pre .1) in
+    omega arith
 
 same-length : tie.Need-same-length
 same-length c = search needs

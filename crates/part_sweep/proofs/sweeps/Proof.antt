@@ -20,7 +20,9 @@ abbrev μ-loop : tie.MeasureT-loop
 stop-requires : tie.Need-stop-requires Inv-loop μ-loop
 stop-requires c κs =
     let c-pre = c .before .before .before .pre in
-    (c-pre .0 .most, c-pre .0 .placed (c-pre .1) .1)
+    let m = c-pre .0 .most in
+    let k = c-pre .0 .marked in
+    (omega arith, c-pre .0 .placed (c-pre .1) .1)
 
 loop-holds : tie.Need-loop-holds Inv-loop μ-loop
 loop-holds c =
@@ -87,8 +89,10 @@ loop-again c =
 
 settled-requires : tie.Need-settled-requires Inv-loop μ-loop
 settled-requires c κs =
-    let b = c .before .before .loop .inv .3 .blocks in
-    let m = c .before .before .before .before .before .before .before .pre .0 .most in
+    let e = c .before .before .loop .inv .3 .mark in
+    let c-pre = c .before .before .before .before .before .before .before .pre in
+    let m = c-pre .0 .most in
+    let k = c-pre .0 .marked in
     omega arith
 
 sub-t20 : tie.Need-sub-t20 Inv-loop μ-loop

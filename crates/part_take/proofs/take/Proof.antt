@@ -23,6 +23,9 @@ slice-read-s c = search needs
 sub-s : tie.Need-sub-s
 sub-s c = search needs
 
+raised-requires : tie.Need-raised-requires
+raised-requires c κs = tt
+
 mul-words : tie.Need-mul-words
 mul-words c = search needs
 
@@ -45,7 +48,8 @@ returns : tie.Need-returns
 returns c =
     let c-new-colour = c .before .before .before .before .new-colour in
     let c-paint = c .before .before .paint in
-    λ bs. taken-as _ _ _ refl refl (c-new-colour .ensures _ refl refl) (c-paint .ensures)
+    let c-raised = c .before .before .before .before .before .raised in
+    λ bs. taken-as _ _ _ refl refl (c-new-colour .ensures _ refl refl) (c-paint .ensures) (c-raised .ensures)
 
 pub take-spec : {M : Type 1} → statement M
 take-spec =
@@ -57,6 +61,7 @@ take-spec =
     mul-s
     slice-read-s
     sub-s
+    raised-requires
     mul-words
     slice-write-words
     new-colour-requires
