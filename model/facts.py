@@ -184,3 +184,20 @@ def N(M, U):
 def has_room(M, U, K):
     """Demand 3's premise on the numbers: U at least 1, K + 2N at most M."""
     return U >= 1 and K + 2 * N(M, U) <= M
+
+
+# ------------------------------------------------------- demand 3, sharper
+
+def short_N(K, P, U):
+    """(K + P + 2)/U rounded up: a cycle marks K blocks at most, not M."""
+    return -((K + P + 2) // -U)
+
+
+def is_enough(P, U, K, B=1):
+    """The sharper rule: U at least 1, K + 2N' + B - 1 at most P."""
+    return U >= 1 and K + 2 * short_N(K, P, U) + B - 1 <= P
+
+
+def least_blocks(U, K, B=1):
+    """The least P from 1 to 16,384 that is enough, or 0."""
+    return next((P for P in range(1, 16385) if is_enough(P, U, K, B)), 0)

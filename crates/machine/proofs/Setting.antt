@@ -7,7 +7,7 @@
 --     ready-raised             the mark raised
 -- Whatever changes a heap in several places keeps Ready by these laws one after another.
 -- Assumes nothing.
-use Prim.Native.Nat.{ℕ, _+_, max, _≤_}
+use Prim.Native.Nat.{ℕ, _+_, _≤_}
 use mathlib.Core.Path.{_≡_, refl}
 use mathlib.Core.Logic.{_≢_}
 use mathlib.Core.Bool.{true}

@@ -3,13 +3,11 @@
 --     pending M h          the number of white and grey blocks
 --     all-blocks           allocated and free blocks are together M
 --     due M h              the blocks that the cycle may still mark: those pending while marking, else none (due-marking, due-off)
+--     move-pends           while marking, a block that pends after a move did so before
 --     move-due, run-due    every mark lowers it by at least 1, and no move of a cycle raises it
---     left M h             a bound on the units that the cycle has still to do: those due and those ahead
---     move-lowers          every unit of a cycle after its first lowers left by at least 1, and no other move raises it by more than the span
---     begin-due, begin-left     just after a beginning with A allocated blocks A are due, and A + 1 + span units left
+--     begin-pends, begin-due    just after a beginning with A allocated blocks those pend: A are due
 --     cycle-units          at every moment of a cycle: units spent, with those ahead, are at most 2, the blocks marked and the span
 --     marks-few            it marks at most A blocks, those still due among them
---     cycle-spent          so units spent, with those left, are at most A + span + 2
 --     cycle-exact          a whole cycle takes 2 units, one for each block marked, and one for each block that the sweep visits
 --     cycle-short          the statement CycleShort
 -- While marking: a mark turns one grey block black; the barrier turns white to grey; a block taken is black. What lies ahead is the subject of Ahead.
@@ -19,21 +17,21 @@ use mathlib.Core.Path.{_≡_, refl, sym, _∙_, ap}
 use mathlib.Core.Logic.{_≢_}
 use native.Mathlib.Omega.{arith}
 use Rattle.theory_reach.specs.Sums.{Block, total}
-use Rattle.theory_reach.proofs.Splits.{never, by-eq}
+use Rattle.theory_reach.proofs.Splits.{by-eq}
 use Rattle.theory_reach.proofs.Sums.{total-le, total-same, total-down, total-plus, total-ones}
 use Rattle.theory_moves.specs.Tints.{Tint, White, Grey, Black, Free, Turned, turned, stayed}
 use Rattle.theory_moves.specs.Heaps.{Abs, idle, marking, Sound, span}
-use Rattle.theory_moves.specs.Moves.{Begin, Mark, Turning, entering, skipping, Fresh, newMarking, newAhead, newBehind, newIdle}
+use Rattle.theory_moves.specs.Moves.{Begin, Mark, Fresh, newMarking, newAhead, newBehind, newIdle}
 use Rattle.theory_moves.specs.Moves.{Move, begin, mark, turn, sweep, writeNumber, writeRef, setRoot, takeHeld, takeRoot}
 use Rattle.theory_moves.specs.Kinds.{cost, marked, begun, ended}
 use Rattle.theory_moves.specs.Runs.{Run, rest, step, units, marks, begins}
 use Rattle.theory_moves.specs.Demand3.{stands, lies, allocated, unused, CycleShort}
 use Rattle.theory_moves.proofs.Tints.{tint-cases}
-use Rattle.theory_moves.proofs.ByKind.{kind-cost, cost-one, ended-idle, idle-ended}
-use Rattle.theory_moves.proofs.Mutating.{Tinted, keeps, greys, takes, Mutation, number-mutation, ref-mutation, root-mutation, held-mutation, taken-mutation}
-use Rattle.theory_moves.proofs.Soundness.{begin-sound, no-marking}
+use Rattle.theory_moves.proofs.ByKind.{marks?, kind-cost, cost-one, ended-idle, idle-ended, turning-off, was-marking}
+use Rattle.theory_moves.proofs.Mutating.{Tinted, keeps, greys, takes, number-mutation, ref-mutation, root-mutation, held-mutation, taken-mutation}
+use Rattle.theory_moves.proofs.Soundness.{begin-sound}
 use Rattle.theory_moves.proofs.Runs.{run-sound}
-use Rattle.theory_moves.proofs.Ahead.{ahead, ahead-idle, ahead-marking, move-ahead, move-ahead-most, run-ahead, run-ahead-most}
+use Rattle.theory_moves.proofs.Ahead.{ahead, ahead-idle, ahead-marking, move-ahead, run-ahead, run-ahead-most}
 
 -- the weight of what is still to mark
 abbrev pub pends : Tint → ℕ
@@ -65,9 +63,6 @@ unfoldable pub due : ℕ → Abs → ℕ
 unfolding dueIn
 due M h = dueIn (h .phase) (pending M h)
 
-abbrev pub left : ℕ → Abs → ℕ
-left M h = due M h + ahead h
-
 module _ (M : ℕ) (h : Abs) where
   pub due-marking : h .phase ≡ marking → due M h ≡ pending M h
   unfolding due dueIn
@@ -81,14 +76,6 @@ module _ (M : ℕ) (h : Abs) where
       go zero n e = refl
       go (suc zero) n e = absurd (e refl)
       go (suc (suc p)) n e = refl
-
-  pub left-idle : h .phase ≡ idle → left M h ≡ 0
-  left-idle e = omega (arith, due-off (λ p. omega arith), ahead-idle h e)
-
--- after a turn the collector no longer marks
-turning-off : {h k : Abs} → Turning h k → k .phase ≢ marking
-turning-off (entering n p e) z = absurd (omega arith)
-turning-off (skipping e p) z = absurd (omega arith)
 
 -- white and grey turn into white and grey
 turned-pends : {S : Type 0} {s t : Tint} → Turned S s t → pends t ≡ pends s
@@ -107,30 +94,34 @@ tinted-pends {h} {k} {n} {c} p (takes i f g) = go g
     go (newIdle q e) = absurd (omega arith)
 
 module _ {M : ℕ} {h k : Abs} where
+  mark-pends : (b : ℕ) → Mark M b h k → (c : ℕ) → Block M c → pends (k .tint c) ≤ pends (h .tint c)
+  mark-pends b m c l = by-eq c b (λ i. rw (i, m .grey, m .black) (omega arith)) (λ i. omega (arith, turned-pends (m .tints c l i)))
+
+  pub move-pends : (m : Move M h k) → h .phase ≡ marking → k .phase ≡ marking → (c : ℕ) → Block M c → pends (k .tint c) ≤ pends (h .tint c)
+  move-pends (begin m) p q c l = absurd (omega (arith, m .before))
+  move-pends (mark b m) p q c l = mark-pends b m c l
+  move-pends (turn m) p q c l = absurd (turning-off (m .turning) q)
+  move-pends (sweep m) p q c l = absurd (omega (arith, m .before))
+  move-pends (writeNumber b w v m) p q c l = tinted-pends p (number-mutation b w v m .tints c l)
+  move-pends (writeRef b w t m) p q c l = tinted-pends p (ref-mutation b w t m .tints c l)
+  move-pends (setRoot t m) p q c l = tinted-pends p (root-mutation t m .tints c l)
+  move-pends (takeHeld x b w m) p q c l = tinted-pends p (held-mutation x b w m .tints c l)
+  move-pends (takeRoot x m) p q c l = tinted-pends p (taken-mutation x m .tints c l)
+
   mark-pending : (b : ℕ) → Mark M b h k → pending M k + 1 ≤ pending M h
   mark-pending b m =
       let d = total-down M (λ c. pends (k .tint c)) (λ c. pends (h .tint c)) b (m .block) (λ c l n. omega (arith, turned-pends (m .tints c l n))) in
       omega (arith, d, ap pends (m .grey), ap pends (m .black))
 
-  mutation-due : {n : ℕ} → Mutation M n h k → due M k ≤ due M h
-  mutation-due m =
-      by-eq (h .phase) marking
-      (λ p. omega (arith, due-marking M h p, due-marking M k (m .steady .phase ∙ p), total-le M _ _ (λ c l. tinted-pends p (m .tints c l))))
-      (λ n. omega (arith, due-off M k (λ p. n (sym (m .steady .phase) ∙ p))))
-
   pub move-due : (m : Move M h k) → begun m ≡ 0 → marked m + due M k ≤ due M h
-  move-due (begin m) e = never (sym e)
-  move-due (mark b m) e = omega (arith, mark-pending b m, due-marking M h (m .before), due-marking M k (m .after))
-  move-due (turn m) e = omega (arith, due-off M k (turning-off (m .turning)))
-  move-due (sweep m) e = omega (arith, due-off M k (no-marking (m .onward)))
-  move-due (writeNumber b w v m) e = omega (arith, mutation-due (number-mutation b w v m))
-  move-due (writeRef b w t m) e = omega (arith, mutation-due (ref-mutation b w t m))
-  move-due (setRoot t m) e = omega (arith, mutation-due (root-mutation t m))
-  move-due (takeHeld x b w m) e = omega (arith, mutation-due (held-mutation x b w m))
-  move-due (takeRoot x m) e = omega (arith, mutation-due (taken-mutation x m))
-
-  pub move-lowers : Sound M h → (m : Move M h k) → begun m ≡ 0 → cost m + left M k + span h ≤ left M h + span k
-  move-lowers s m e = omega (arith, move-due m e, move-ahead-most s m e)
+  move-due m e =
+      marks? m
+      (λ b y. omega (arith, kind-cost m, cost-one m, mark-pending b y, due-marking M h (y .before), due-marking M k (y .after)))
+      (λ z. by-eq (k .phase) marking
+      (λ q.
+      let p = was-marking m e q in
+      omega (arith, due-marking M h p, due-marking M k q, total-le M (λ c. pends (k .tint c)) (λ c. pends (h .tint c)) (move-pends m p q)))
+      (λ n. omega (arith, due-off M k n)))
 
 module _ {M : ℕ} where
   pub run-due : {h k : Abs} (r : Run M h k) → begins r ≡ 0 → marks r + due M k ≤ due M h
@@ -138,16 +129,13 @@ module _ {M : ℕ} where
   run-due (step m r) e = omega (arith, move-due m (omega arith), run-due r (omega arith))
 
   -- at a beginning every allocated block is white, and the root turns grey
-  pub begin-due : {h k : Abs} → Sound M h → Begin M h k → due M k ≡ allocated M h
-  begin-due {h} {k} s m = omega (arith, due-marking M k (m .after), total-same M (λ c. pends (k .tint c)) (λ c. stands (h .tint c)) go)
-    where
-      go : (c : ℕ) → Block M c → pends (k .tint c) ≡ stands (h .tint c)
-      go c l =
-          turned-pends (m .tints c l)
-          ∙ tint-cases (h .tint c) (λ e. rw e refl) (λ e. absurd (s .idleGrey (m .before) c l e)) (λ e. absurd (s .idleBlack (m .before) c l e)) (λ e. rw e refl)
+  pub begin-pends : {h k : Abs} → Sound M h → Begin M h k → (c : ℕ) → Block M c → pends (k .tint c) ≡ stands (h .tint c)
+  begin-pends {h} s m c l =
+      turned-pends (m .tints c l)
+      ∙ tint-cases (h .tint c) (λ e. rw e refl) (λ e. absurd (s .idleGrey (m .before) c l e)) (λ e. absurd (s .idleBlack (m .before) c l e)) (λ e. rw e refl)
 
-  pub begin-left : {h k : Abs} → Sound M h → Begin M h k → left M k ≡ allocated M h + 1 + span k
-  begin-left {k = k} s m = omega (arith, begin-due s m, ahead-marking k (m .after))
+  pub begin-due : {h k : Abs} → Sound M h → Begin M h k → due M k ≡ allocated M h
+  begin-due {h} {k} s m = omega (arith, due-marking M k (m .after), total-same M (λ c. pends (k .tint c)) (λ c. stands (h .tint c)) (begin-pends s m))
 
   -- h is the heap at the beginning, i just after it; the beginning is the first unit
   module _ {h i : Abs} (s : Sound M h) (m : Begin M h i) where
@@ -156,9 +144,6 @@ module _ {M : ℕ} where
 
     pub marks-few : {k : Abs} (r : Run M i k) → begins r ≡ 0 → marks r + due M k ≤ allocated M h
     marks-few r e = omega (arith, begin-due s m, run-due r e)
-
-    pub cycle-spent : {k : Abs} (r : Run M i k) → begins r ≡ 0 → 1 + units r + left M k ≤ allocated M h + span k + 2
-    cycle-spent r e = omega (arith, cycle-units r e, marks-few r e)
 
     pub cycle-exact : {j k : Abs} (r : Run M i j) → begins r ≡ 0 → (u : Move M j k) → ended u ≡ 1 → 1 + units r + cost u ≡ 2 + marks r + span k
     cycle-exact {j} {k} r e u z =
@@ -177,7 +162,7 @@ pub cycle-short : CycleShort
 cycle-short =
     record {
       counted = all-blocks;
-      most = λ s m r e. omega (arith, cycle-spent s m r e);
+      most = λ s m r e. omega (arith, cycle-units s m r e, marks-few s m r e);
       exact = λ s m r e u z. cycle-exact s m r e u z;
       marked = λ s m r e. omega (arith, marks-few s m r e);
     }

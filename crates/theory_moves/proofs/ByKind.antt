@@ -1,11 +1,13 @@
 -- Splits on the kind of a move, and what follows from it.
---     begins?              a case split: a move is a beginning or is none
+--     begins?, marks?      case splits: a move is a beginning or is none, is a mark or is none
 --     unit-none            a unit takes nothing and names nothing
 --     kind-cost, cost-one       a beginning, a mark and an end are units, and no unit is two of them; a move is one unit at most
 --     ended-idle           after the move that ends a cycle the collector is idle
 --     idle-ended, ended-here    no cycle ends when idle; a move from another phase to idle ends one
 --     stays-idle, idle-cost     a move that is no beginning leaves an idle collector idle, and is no unit then
---     mark-rises           no move lowers the mark
+--     turning-off, no-marking   after a turn, after a sweep move, the collector doesn't mark
+--     was-marking          a move that is no beginning leads to marking only from marking
+--     mark-rises, unit-mark     no move lowers the mark, and no unit raises it
 -- Assumes nothing.
 use Prim.Native.Nat.{ℕ, _+_, _≤_}
 use mathlib.Core.Path.{_≡_, refl, sym, _∙_}
@@ -13,8 +15,8 @@ use mathlib.Core.Logic.{_≢_}
 use native.Mathlib.Omega.{arith}
 use lib.ListN.{length}
 use Rattle.theory_reach.proofs.Splits.{never}
-use Rattle.theory_moves.specs.Heaps.{Abs, idle}
-use Rattle.theory_moves.specs.Moves.{Turning, entering, skipping, Onward, going, ending, Begin}
+use Rattle.theory_moves.specs.Heaps.{Abs, idle, marking}
+use Rattle.theory_moves.specs.Moves.{Turning, entering, skipping, Onward, going, ending, Begin, Mark}
 use Rattle.theory_moves.specs.Moves.{Move, begin, mark, turn, sweep, writeNumber, writeRef, setRoot, takeHeld, takeRoot}
 use Rattle.theory_moves.specs.Kinds.{cost, marked, begun, skipping?, ending?, ended, taking, target}
 
@@ -29,6 +31,18 @@ begins? (writeRef b w t m) y n = n refl
 begins? (setRoot t m) y n = n refl
 begins? (takeHeld x b w m) y n = n refl
 begins? (takeRoot x m) y n = n refl
+
+-- a move is a mark or is none
+pub marks? : {A : Type 0} {M : ℕ} {h k : Abs} (m : Move M h k) → ((b : ℕ) → Mark M b h k → A) → (marked m ≡ 0 → A) → A
+marks? (begin m) y n = n refl
+marks? (mark b m) y n = y b m
+marks? (turn m) y n = n refl
+marks? (sweep m) y n = n refl
+marks? (writeNumber b w v m) y n = n refl
+marks? (writeRef b w t m) y n = n refl
+marks? (setRoot t m) y n = n refl
+marks? (takeHeld x b w m) y n = n refl
+marks? (takeRoot x m) y n = n refl
 
 pub unit-none : {M : ℕ} {h k : Abs} (m : Move M h k) → cost m ≡ 1 → (target m ≡ 0) × (length (taking m) ≡ 0)
 unit-none (begin m) e = (refl, refl)
@@ -144,6 +158,25 @@ idle-cost i (setRoot t m) e = refl
 idle-cost i (takeHeld x b w m) e = refl
 idle-cost i (takeRoot x m) e = refl
 
+pub turning-off : {h k : Abs} → Turning h k → k .phase ≢ marking
+turning-off (entering n p e) z = absurd (omega arith)
+turning-off (skipping e p) z = absurd (omega arith)
+
+pub no-marking : {h k : Abs} {n : ℕ} → Onward h k n → k .phase ≢ marking
+no-marking (going n p e) z = absurd (omega arith)
+no-marking (ending e p) z = absurd (omega arith)
+
+pub was-marking : {M : ℕ} {h k : Abs} (m : Move M h k) → begun m ≡ 0 → k .phase ≡ marking → h .phase ≡ marking
+was-marking (begin m) e p = never (sym e)
+was-marking (mark b m) e p = m .before
+was-marking (turn m) e p = m .before
+was-marking (sweep m) e p = absurd (no-marking (m .onward) p)
+was-marking (writeNumber b w v m) e p = sym (m .steady .phase) ∙ p
+was-marking (writeRef b w t m) e p = sym (m .steady .phase) ∙ p
+was-marking (setRoot t m) e p = sym (m .steady .phase) ∙ p
+was-marking (takeHeld x b w m) e p = sym (m .steady .phase) ∙ p
+was-marking (takeRoot x m) e p = sym (m .steady .phase) ∙ p
+
 pub mark-rises : {M : ℕ} {h k : Abs} → Move M h k → h .mark ≤ k .mark
 mark-rises (begin m) = omega (arith, m .mark)
 mark-rises (mark b m) = omega (arith, m .mark)
@@ -154,3 +187,14 @@ mark-rises (writeRef b w t m) = omega (arith, m .mark)
 mark-rises (setRoot t m) = omega (arith, m .mark)
 mark-rises (takeHeld x b w m) = omega (arith, m .taken .mark)
 mark-rises (takeRoot x m) = omega (arith, m .taken .mark)
+
+pub unit-mark : {M : ℕ} {h k : Abs} (m : Move M h k) → cost m ≡ 1 → k .mark ≡ h .mark
+unit-mark (begin m) e = m .mark
+unit-mark (mark b m) e = m .mark
+unit-mark (turn m) e = m .mark
+unit-mark (sweep m) e = m .mark
+unit-mark (writeNumber b w v m) e = never e
+unit-mark (writeRef b w t m) e = never e
+unit-mark (setRoot t m) e = never e
+unit-mark (takeHeld x b w m) e = never e
+unit-mark (takeRoot x m) e = never e

@@ -4,6 +4,7 @@
 --     Inside h             the set that goes with a beginning at h: a block of it is reachable at h, or free there
 --     begin-trail          at a beginning, Inside is such a set
 --     reached-in           what is reachable is in the set
+--     trail-on             a move from marking to marking leaves it such a set
 --     begin-waits          at a beginning, what is allocated and out of reach is Waiting
 --     waits-on             a move of the cycle leaves it Waiting, unless it frees it
 --     waits-kept, waits-not     a block that waits is allocated; when the collector is idle none waits
@@ -22,13 +23,14 @@ use Rattle.theory_reach.proofs.Splits.{never, by-eq}
 use Rattle.theory_reach.proofs.Reaching.{reach-closed}
 use Rattle.theory_moves.specs.Tints.{White, Free, Turned, turned, stayed}
 use Rattle.theory_moves.specs.Heaps.{Abs, idle, marking, named, ref, Reached, Doomed, Live, Sound}
-use Rattle.theory_moves.specs.Moves.{Begin, Names, Mark, Turning, entering, skipping, Turn, Swept, freeing, whitening, passing, Onward, going, ending, Sweep}
+use Rattle.theory_moves.specs.Moves.{Begin, Names, Mark, Turning, entering, skipping, Turn, Swept, freeing, whitening, passing, Onward, going, ending, Sweep, Taken}
 use Rattle.theory_moves.specs.Moves.{Move, begin, mark, turn, sweep, writeNumber, writeRef, setRoot, takeHeld, takeRoot}
 use Rattle.theory_moves.specs.Kinds.{begun}
 use Rattle.theory_moves.specs.Runs.{Run, rest, step, begins, Proper, ProperRun, FreedIn, freed-later}
 use Rattle.theory_moves.specs.Demand2.{GarbageGoes}
 use Rattle.theory_moves.proofs.Tints.{tint-cases, by-free, by-white}
 use Rattle.theory_moves.proofs.Heaps.{below-mark, unused-free}
+use Rattle.theory_moves.proofs.ByKind.{turning-off}
 use Rattle.theory_moves.proofs.Runs.{frees-now}
 use Rattle.theory_moves.proofs.Mutating.{Tinted, keeps, greys, takes, Mutation, same-ref, tinted-steady, number-mutation, ref-mutation, root-mutation, held-mutation, taken-mutation}
 use Rattle.theory_moves.proofs.Soundness.{move-sound, begin-sound}
@@ -131,6 +133,22 @@ module _ {M : ℕ} {S : ℕ → Type 0} {h k : Abs} (t : Trail M S h) where
           }
       go (skipping o p) = absurd (n (t .darkIn g l (λ z. never (cc (unused-free s o g l)))))
 
+module _ {M : ℕ} {S : ℕ → Type 0} {h k : Abs} (s : Sound M h) where
+  -- a block that is taken was free, and so in S
+  taken-in : {x : ℕ} → Taken M x h k → Trail M S h → S x
+  taken-in {x} m t = t .darkIn x (m .block) (λ z. never (cc (m .free)))
+
+  pub trail-on : (m : Move M h k) → Proper m → h .phase ≡ marking → k .phase ≡ marking → Trail M S h → Trail M S k
+  trail-on (begin m) p q z t = absurd (omega (arith, m .before))
+  trail-on (mark b m) p q z t = mark-trail t b m
+  trail-on (turn m) p q z t = absurd (turning-off (m .turning) z)
+  trail-on (sweep m) p q z t = absurd (omega (arith, m .before))
+  trail-on (writeNumber b w v m) p q z t = mutation-trail t (number-mutation b w v m) (λ n. absurd (n refl))
+  trail-on (writeRef b w x m) p q z t = mutation-trail t (ref-mutation b w x m) (λ n. reached-in t s (p n))
+  trail-on (setRoot x m) p q z t = mutation-trail t (root-mutation x m) (λ n. reached-in t s (p n))
+  trail-on (takeHeld x b w m) p q z t = mutation-trail t (held-mutation x b w m) (λ n. taken-in (m .taken) t)
+  trail-on (takeRoot x m) p q z t = mutation-trail t (taken-mutation x m) (λ n. taken-in (m .taken) t)
+
 module _ {M : ℕ} {h k : Abs} {g : ℕ} (s : Sound M h) (l : Block M g) (d : Doomed h g) where
   sweep-dooms : k .tint g ≢ Free → Sweep M h k → Doomed k g
   sweep-dooms a m = by-eq g (h .position) (go (m .here)) (away (m .onward))
@@ -153,8 +171,8 @@ module _ {M : ℕ} {h k : Abs} {g : ℕ} (s : Sound M h) (l : Block M g) (d : Do
       }
 
 module _ {M : ℕ} {S : ℕ → Type 0} {h k : Abs} {g : ℕ} (s : Sound M h) (l : Block M g) where
-  mutation-waits : {n : ℕ} → Mutation M n h k → (h .phase ≡ marking → Trail M S h → n ≢ 0 → S n) → Waiting M S g h → Waiting M S g k
-  mutation-waits m i (unmarked p t n) = unmarked (m .steady .phase ∙ p) (mutation-trail t m (i p t)) n
+  mutation-waits : {n : ℕ} → Mutation M n h k → (h .phase ≡ marking → k .phase ≡ marking → Trail M S h → Trail M S k) → Waiting M S g h → Waiting M S g k
+  mutation-waits m i (unmarked p t n) = let q = m .steady .phase ∙ p in unmarked q (i p q t) n
   mutation-waits m i (doomed d) = doomed (mutation-dooms s l d m)
 
   pub waits-on : (m : Move M h k) → begun m ≡ 0 → Proper m → k .tint g ≢ Free → Waiting M S g h → Waiting M S g k
@@ -165,13 +183,11 @@ module _ {M : ℕ} {S : ℕ → Type 0} {h k : Abs} {g : ℕ} (s : Sound M h) (l
   waits-on (turn m) e p a (doomed d) = absurd (omega (arith, m .before, d .phase))
   waits-on (sweep m) e p a (unmarked q t n) = absurd (omega (arith, m .before))
   waits-on (sweep m) e p a (doomed d) = doomed (sweep-dooms s l d a m)
-  waits-on (writeNumber b w v m) e p a x = mutation-waits (number-mutation b w v m) (λ q t n. absurd (n refl)) x
-  waits-on (writeRef b w t m) e p a x = mutation-waits (ref-mutation b w t m) (λ q t n. reached-in t s (p n)) x
-  waits-on (setRoot t m) e p a x = mutation-waits (root-mutation t m) (λ q t n. reached-in t s (p n)) x
-  waits-on (takeHeld y b w m) e p a x =
-      mutation-waits (held-mutation y b w m) (λ q t n. t .darkIn y (m .taken .block) (λ z. never (cc (m .taken .free)))) x
-  waits-on (takeRoot y m) e p a x =
-      mutation-waits (taken-mutation y m) (λ q t n. t .darkIn y (m .taken .block) (λ z. never (cc (m .taken .free)))) x
+  waits-on (writeNumber b w v m) e p a x = mutation-waits (number-mutation b w v m) (trail-on s (writeNumber b w v m) p) x
+  waits-on (writeRef b w t m) e p a x = mutation-waits (ref-mutation b w t m) (trail-on s (writeRef b w t m) p) x
+  waits-on (setRoot t m) e p a x = mutation-waits (root-mutation t m) (trail-on s (setRoot t m) p) x
+  waits-on (takeHeld y b w m) e p a x = mutation-waits (held-mutation y b w m) (trail-on s (takeHeld y b w m) p) x
+  waits-on (takeRoot y m) e p a x = mutation-waits (taken-mutation y m) (trail-on s (takeRoot y m) p) x
 
 -- a block that waits is allocated
 pub waits-kept : {M : ℕ} {S : ℕ → Type 0} {g : ℕ} {h : Abs} → Block M g → Waiting M S g h → h .tint g ≢ Free

@@ -2,7 +2,7 @@
 -- cycle skips its sweep.
 --     only n p q r t       the heap of one block, which names nothing: mark, phase, position, root and the block's colour
 --     small p q r t        so where the block was handed out
---     unused p             and where it never was
+--     unused p             and where it never was; so a heap of any size
 --     small-sound          idle, white and out of reach, it is sound
 --     out-of-reach         the block is out of reach
 --     started, turning, clearing, sparing, saving, blackening, opening, skipped, handing     the moves
@@ -75,19 +75,19 @@ out-of-reach p q t =
     reach-closed 0 (ref (small p q 0 t)) (λ x. ⊥) (λ x e n. n e) (λ b w x z e n. z)
 
 -- with no root nothing turns grey
-opens : (n : ℕ) (t : Tint) → Begin 1 (only n 0 0 0 t) (only n 1 0 0 t)
-opens n t =
+opens : (M n : ℕ) (t : Tint) → Begin M (only n 0 0 0 t) (only n 1 0 0 t)
+opens M n t =
     record {
       before = refl;
       after = refl;
       root = refl;
       mark = refl;
-      tints = λ b l. stayed (λ e. absurd (omega arith)) refl;
+      tints = λ b l. stayed (λ e. absurd (omega (arith, l .low))) refl;
       cells = λ b l. same b;
     }
 
 pub started : Begin 1 (small 0 0 0 White) (small 1 0 0 White)
-started = opens 2 White
+started = opens 1 2 White
 
 pub turning : (r : ℕ) (t : Tint) → t ≢ Grey → Turn 1 (small 1 0 r t) (small 2 2 r t)
 turning r t n =
@@ -198,15 +198,15 @@ rescue-improper p = out-of-reach 1 0 White (p .0 (λ z. absurd (omega arith)))
 pub rescue-begins : begins rescue ≡ 0
 rescue-begins = refl
 
-pub unused-sound : Sound 1 (unused 0)
-unused-sound = fresh-sound 1 (unused 0) refl refl refl (λ b l. refl) (λ b w l. refl)
+pub unused-sound : (M : ℕ) → Sound M (unused 0)
+unused-sound M = fresh-sound M (unused 0) refl refl refl (λ b l. refl) (λ b w l. refl)
 
-pub opening : Begin 1 (unused 0) (unused 1)
-opening = opens 1 Free
+pub opening : (M : ℕ) → Begin M (unused 0) (unused 1)
+opening M = opens M 1 Free
 
 -- the turn, with nothing to sweep
-pub skipped : Turn 1 (unused 1) (unused 0)
-skipped =
+pub skipped : (M : ℕ) → Turn M (unused 1) (unused 0)
+skipped M =
     record {
       before = refl;
       turning = skipping refl refl;
@@ -218,14 +218,14 @@ skipped =
     }
 
 abbrev pub skip : Move 1 (unused 1) (unused 0)
-skip = turn skipped
+skip = turn (skipped 1)
 
 pub skip-ends : ended skip ≡ 1
 skip-ends = ended-here (λ z. absurd (omega arith)) refl skip
 
 -- before it there is the beginning alone
 pub skip-exact : 1 + cost skip ≡ 2 + span (unused 0)
-skip-exact = cycle-short .exact unused-sound opening rest refl skip skip-ends
+skip-exact = cycle-short .exact (unused-sound 1) (opening 1) rest refl skip skip-ends
 
 -- the idle heap's one block is taken
 pub handing : TakeRoot 1 2 (unused 0) (small 0 0 2 White)

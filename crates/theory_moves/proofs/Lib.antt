@@ -13,6 +13,8 @@ pub mod Around
 pub mod Ahead
 pub mod Bounds
 pub mod Taking
+pub mod Marking
 pub mod Ledger
 pub mod Room
 pub mod Instances
+pub mod Sharpness

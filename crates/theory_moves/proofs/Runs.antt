@@ -1,10 +1,11 @@
 -- The laws of runs.
 --     frees-now            a run whose first move frees g has it freed: the move is a sweep
 --     run-sound            a run keeps a sound heap sound
+--     run-mark             a run doesn't lower the mark
 --     moves-keep           the statement MovesKeep
 --     joined-units, joined-begins, joined-marks, joined-ends, joined-proper, freed-left, freed-right     of two runs joined
 -- Assumes nothing.
-use Prim.Native.Nat.{ℕ, _+_}
+use Prim.Native.Nat.{ℕ, _+_, _≤_}
 use mathlib.Core.Path.{_≡_}
 use mathlib.Core.Logic.{_≢_}
 use native.Mathlib.Omega.{arith}
@@ -15,6 +16,7 @@ use Rattle.theory_moves.specs.Moves.{Move}
 use Rattle.theory_moves.specs.Runs.{Run, rest, step, joined, units, marks, begins, ends, ProperRun, FreedIn, freed-now, freed-later}
 use Rattle.theory_moves.specs.Demand2.{MovesKeep}
 use Rattle.theory_moves.proofs.Heaps.{fresh-sound}
+use Rattle.theory_moves.proofs.ByKind.{mark-rises}
 use Rattle.theory_moves.proofs.Soundness.{move-sound}
 use Rattle.theory_moves.proofs.Safety.{freed-sweep}
 
@@ -25,6 +27,10 @@ frees-now l m a f = freed-now m (freed-sweep m _ l a f) a f
 pub run-sound : {M : ℕ} {h k : Abs} → Sound M h → Run M h k → Sound M k
 run-sound s rest = s
 run-sound s (step m r) = run-sound (move-sound s m) r
+
+pub run-mark : {M : ℕ} {h k : Abs} → Run M h k → h .mark ≤ k .mark
+run-mark rest = omega arith
+run-mark (step m r) = omega (arith, mark-rises m, run-mark r)
 
 pub moves-keep : MovesKeep
 moves-keep = record { fresh = fresh-sound; move = move-sound; run = run-sound }

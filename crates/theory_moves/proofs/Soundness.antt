@@ -1,7 +1,6 @@
 -- Every move keeps a sound heap sound.
 --     begin-sound, mark-sound, turn-sound, sweep-sound, mutation-sound     a law for each kind of move
 --     sweep-cells          a sweep leaves the cells of live blocks
---     no-marking           after a sweep move the collector doesn't mark
 --     move-sound           for every move
 -- Begin: there is no black block yet. Mark b: b's white children turn grey in the same move. Turn: nothing is grey, so the root and all that
 -- black blocks name are black, hence live; a turn that skips the sweep leaves a heap with all blocks free. Sweep: the block at the position was
@@ -22,6 +21,7 @@ use Rattle.theory_moves.specs.Moves.{Onward, going, ending, Sweep, Fresh
 use Rattle.theory_moves.specs.Moves.{Move, begin, mark, turn, sweep, writeNumber, writeRef, setRoot, takeHeld, takeRoot}
 use Rattle.theory_moves.proofs.Tints.{tint-cases, was-white, white-out, was-black, was-free, stays-free}
 use Rattle.theory_moves.proofs.Heaps.{off-sweep, not-white, below-mark, unused-free, fresh-sound}
+use Rattle.theory_moves.proofs.ByKind.{no-marking}
 use Rattle.theory_moves.proofs.Mutating.{Tinted, keeps, greys, takes, Mutation, same-ref, fresh-grey, tinted-free, tinted-white, tinted-live}
 use Rattle.theory_moves.proofs.Mutating.{was-live, number-mutation, ref-mutation, root-mutation, held-mutation, taken-mutation}
 
@@ -162,10 +162,6 @@ not-last (ending e p) z = absurd (omega arith)
 at-end : {h k : Abs} {n : ℕ} → Onward h k n → k .phase ≡ idle → h .position ≡ n
 at-end (going n p e) z = absurd (omega arith)
 at-end (ending e p) z = e
-
-pub no-marking : {h k : Abs} {n : ℕ} → Onward h k n → k .phase ≢ marking
-no-marking (going n p e) z = absurd (omega arith)
-no-marking (ending e p) z = absurd (omega arith)
 
 module _ {M : ℕ} {h k : Abs} (m : Sweep M h k) where
   -- a sweep leaves the cells of live blocks

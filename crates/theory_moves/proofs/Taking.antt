@@ -1,8 +1,9 @@
 -- How many blocks are allocated, along moves; and which, at a cycle's end.
 --     few-over             a unit leaves at most K blocks reachable
+--     stands-one, stands-some   the weight is 1 at most, and 0 for what is free
 --     allocated-in         if every allocated block is in a list, they are at most as many as it is long
---     allocated-most       at most M blocks are allocated
---     move-stands          only a take raises the number of allocated blocks, and by one
+--     move-stands, run-stands   only a take raises the number of allocated blocks, and by one
+--     acts-stand           acts don't lower it
 --     move-takes           a free block is allocated only by being taken
 --     Cover M S l h        every allocated block is in the list l, or waits to be freed by the running cycle
 --     cover-begin, cover-on, cover-end     so at a beginning, with the reachable blocks for l; after each move, with the blocks taken put to l; and so at the
@@ -13,7 +14,7 @@ use mathlib.Core.Path.{_≡_, refl, _∙_}
 use mathlib.Core.Logic.{_≢_}
 use mathlib.Core.List.{List, [], _∷_, _++_, List·Memᴰ·head}
 use native.Mathlib.Omega.{arith}
-use lib.ListN.{length}
+use lib.ListN.{length, length-append}
 use Rattle.theory_reach.specs.Sums.{Block}
 use Rattle.theory_reach.specs.Listed.{In}
 use Rattle.theory_reach.proofs.Splits.{never, by-eq}
@@ -23,25 +24,31 @@ use Rattle.theory_moves.specs.Tints.{Tint, White, Grey, Black, Free, Tur
 use Rattle.theory_moves.specs.Heaps.{Abs, idle, Sound}
 use Rattle.theory_moves.specs.Moves.{Begin, Mark, Swept, freeing, whitening, passing, Sweep, Taken, Move, begin, mark, turn, sweep, writeNumber, writeRef, setRoot, takeHeld, takeRoot}
 use Rattle.theory_moves.specs.Kinds.{cost, begun, taking}
-use Rattle.theory_moves.specs.Runs.{taken, Proper}
+use Rattle.theory_moves.specs.Runs.{Run, rest, step, units, taken, Proper}
 use Rattle.theory_moves.specs.Demand3.{Few, stands, allocated}
-use Rattle.theory_moves.proofs.Tints.{by-free, stays-free}
+use Rattle.theory_moves.proofs.Tints.{tint-cases, by-free, stays-free}
 use Rattle.theory_moves.proofs.Safety.{unit-back}
+use Rattle.theory_moves.proofs.Acting.{act-kept}
 use Rattle.theory_moves.proofs.Garbage.{Waiting, Inside, begin-waits, waits-on, waits-not}
-use Rattle.theory_moves.proofs.Bounds.{all-blocks}
 
 -- whatever the cycle still has to free waits for it, but for the blocks of a list
 pub record Cover (M : ℕ) (S : ℕ → Type 0) (l : List ℕ) (h : Abs) : Type 0 where
   pub waits : (g : ℕ) → Block M g → h .tint g ≢ Free → (In g l → ⊥) → Waiting M S g h
 
-stands-one : (t : Tint) → stands t ≤ 1
+pub stands-one : (t : Tint) → stands t ≤ 1
 stands-one White = omega arith
 stands-one Grey = omega arith
 stands-one Black = omega arith
 stands-one Free = omega arith
 
-stands-some : (t : Tint) → stands t ≢ 0 → t ≢ Free
+pub stands-some : (t : Tint) → stands t ≢ 0 → t ≢ Free
 stands-some t n e = n (rw e refl)
+
+kept-stands : (s t : Tint) → (s ≢ Free → t ≢ Free) → stands s ≤ stands t
+kept-stands s t n =
+    by-free s
+    (λ f. rw f (omega arith))
+    (λ a. tint-cases t (λ e. rw e (stands-one s)) (λ e. rw e (stands-one s)) (λ e. rw e (stands-one s)) (λ e. absurd (n a e)))
 
 -- as many are allocated as a list has them
 pub allocated-in : (M : ℕ) (h : Abs) (l : List ℕ) → ((g : ℕ) → Block M g → h .tint g ≢ Free → In g l) → allocated M h ≤ length l
@@ -128,8 +135,16 @@ module _ {M : ℕ} {h k : Abs} where
 pub cover-end : {M : ℕ} {S : ℕ → Type 0} {l : List ℕ} {h : Abs} → Cover M S l h → h .phase ≡ idle → allocated M h ≤ length l
 cover-end {M} {S} {l} {h} c p = allocated-in M h l (λ g b a. in? g l (λ i. i) (λ n. absurd (waits-not p (c .waits g b a n))))
 
-pub allocated-most : (M : ℕ) (h : Abs) → allocated M h ≤ M
-allocated-most M h = omega (arith, all-blocks M h)
-
 pub few-over : {M K : ℕ} {h k : Abs} → Sound M h → (m : Move M h k) → cost m ≡ 1 → Few K h → Few K k
 few-over s m e f = record { list = f .list; short = f .short; has = λ x r. f .has x (unit-back s m e r) }
+
+pub run-stands : {M : ℕ} {h k : Abs} (r : Run M h k) → allocated M k ≤ allocated M h + length (taken r)
+run-stands rest = omega arith
+run-stands (step m r) = omega (arith, move-stands m, run-stands r, length-append (taken r) (taking m))
+
+pub acts-stand : {M : ℕ} {h k : Abs} (r : Run M h k) → units r ≡ 0 → allocated M h ≤ allocated M k
+acts-stand rest z = omega arith
+acts-stand {M} {h} (step {i = j} m r) z =
+    let e : cost m ≡ 0 = omega arith in
+    let d = total-le M (λ c. stands (h .tint c)) (λ c. stands (j .tint c)) (λ c l. kept-stands (h .tint c) (j .tint c) (act-kept m e l)) in
+    omega (arith, d, acts-stand r (omega arith))

@@ -1,6 +1,6 @@
 -- Units in a row: the running program sees nothing of them.
 --     work-over, work-back     what is reachable stays so, and nothing else becomes reachable
---     work-root            the root stays
+--     work-root, work-mark      the root stays, and the mark
 --     work-live            a reachable block is live afterwards: not freed, not doomed
 --     work-cells           its words and reference bits stay
 -- Assumes nothing.
@@ -10,6 +10,7 @@ use Rattle.theory_moves.specs.Heaps.{Abs, Reached, Live, Sound}
 use Rattle.theory_moves.specs.Moves.{SameCells}
 use Rattle.theory_moves.specs.Runs.{Run, rest, step, OnlyUnits}
 use Rattle.theory_moves.proofs.Heaps.{reached-live}
+use Rattle.theory_moves.proofs.ByKind.{unit-mark}
 use Rattle.theory_moves.proofs.Runs.{run-sound}
 use Rattle.theory_moves.proofs.Soundness.{move-sound}
 use Rattle.theory_moves.proofs.Safety.{unit-cells, unit-root, unit-over, unit-back}
@@ -29,6 +30,10 @@ module _ {M : ℕ} where
   pub work-root : {h k : Abs} (r : Run M h k) → OnlyUnits r → k .root ≡ h .root
   work-root rest o = refl
   work-root (step m r) o = work-root r (o .1) ∙ unit-root m (o .0)
+
+  pub work-mark : {h k : Abs} (r : Run M h k) → OnlyUnits r → k .mark ≡ h .mark
+  work-mark rest o = refl
+  work-mark (step m r) o = work-mark r (o .1) ∙ unit-mark m (o .0)
 
   pub work-live : {h k : Abs} → Sound M h → (r : Run M h k) → OnlyUnits r → {x : ℕ} → Reached h x → Live M k x
   work-live s r o p = reached-live (run-sound s r) (work-over s r o p)

@@ -6,3 +6,4 @@ pub mod Kinds
 pub mod Runs
 pub mod Demand2
 pub mod Demand3
+pub mod Sharper

@@ -1,5 +1,7 @@
 -- A cycle is short: demand 3's first sentence.
 --     allocated-count          the number of allocated blocks, in the machine and in its view
+--     begins, run-of           a unit of an idle heap is a beginning, and the deeds after it are a run
+--     Cut h xs ys, cut         the place of a cycle in a session: the heap that it begins on is well-formed, and its deeds are allowed
 --     cycle-short              the promise
 -- Assumes nothing.
 use Prim.Native.Nat.{ℕ, _+_, _≤_}
@@ -78,11 +80,11 @@ unfolding deed
 unit-move h f = let g = unit-goes h (wf-shape h f) (wf-sound h f) in record { move = g .move; unit = g .unit; marks = g .marks; shape = g .shape }
 
 module _ (h : Heap) (f : WellFormed h) (ys : List Deed) (a : AllAllowed ys (deed aUnit h)) (i : h .regs .phase ≡ idle) (n : NoBegin ys (deed aUnit h)) where
-  begins : Begin (h .regs .blocks) (view h) (view (deed aUnit h))
+  pub begins : Begin (h .regs .blocks) (view h) (view (deed aUnit h))
   unfolding deed
   begins = unit-begins h (wf-shape h f) (wf-sound h f) i
 
-  run-of : Ran (h .regs .blocks) (deed aUnit h) ys
+  pub run-of : Ran (h .regs .blocks) (deed aUnit h) ys
   run-of = let v = deed-run h (wf-shape h f) (wf-sound h f) aUnit tt in deeds-run (h .regs .blocks) ys (deed aUnit h) (v .blocks) (deed-formed h f aUnit tt) a
 
   -- the heap after the deeds
@@ -117,11 +119,11 @@ module _ (h : Heap) (f : WellFormed h) (ys : List Deed) (a : AllAllowed ys (deed
       )
 
 -- the place of a cycle in a session
-record Cut (h : Heap) (xs ys : List Deed) : Type 0 where
-  formed : WellFormed (after xs h)
-  allowed : AllAllowed ys (deed aUnit (after xs h))
+pub record Cut (h : Heap) (xs ys : List Deed) : Type 0 where
+  pub formed : WellFormed (after xs h)
+  pub allowed : AllAllowed ys (deed aUnit (after xs h))
 
-cut : (h : Heap) → WellFormed h → (cs : List Call) → NoReset cs h → (xs ys zs : List Deed) → sessionDeeds cs h ≡ xs ++ (aUnit ∷ (ys ++ zs)) → Cut h xs ys
+pub cut : (h : Heap) → WellFormed h → (cs : List Call) → NoReset cs h → (xs ys zs : List Deed) → sessionDeeds cs h ≡ xs ++ (aUnit ∷ (ys ++ zs)) → Cut h xs ys
 cut h f cs n xs ys zs e =
     let s = session-is cs h f n in
     let a = subst (λ (ds : List Deed). AllAllowed ds h) e (s .1) in

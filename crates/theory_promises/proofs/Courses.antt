@@ -1,6 +1,7 @@
 -- Allowed deeds in a row, from a well-formed heap, are a run of moves.
 --     Ran m h ds               the run, and what is known of it by the deeds
 --     deeds-run                allowed deeds are one
+--     acts-free                acts are no units
 --     deeds-formed             they leave a well-formed heap well-formed
 --     allowed-left, allowed-right     parts of allowed deeds are allowed
 --     call-formed              every call leaves a well-formed heap well-formed
@@ -9,7 +10,7 @@
 use Prim.Native.Nat.{ℕ}
 use mathlib.Core.Path.{_≡_, refl, sym, _∙_, ap, subst}
 use mathlib.Core.Logic.{⊎-elim}
-use mathlib.Core.List.{List, [], _∷_, _++_}
+use mathlib.Core.List.{List, [], _∷_, _++_, map}
 use native.Mathlib.Omega.{arith}
 use lib.ListN.{length}
 use Rattle.machine.specs.Heap.{Heap}
@@ -22,7 +23,7 @@ use Rattle.theory_moves.proofs.Acting.{joined-taken}
 use Rattle.theory_reach.specs.Sums as sums
 use Rattle.theory_moves.specs.Runs as runs
 use Rattle.theory_promises.specs.View.{view}
-use Rattle.theory_promises.specs.Deeds.{Deed, deed, AllAllowed, takesIn, after}
+use Rattle.theory_promises.specs.Deeds.{Act, Deed, anAct, deed, AllAllowed, takesIn, after}
 use Rattle.theory_promises.specs.Plans.{plan, deeds}
 use Rattle.theory_promises.specs.Sessions.{NoReset, sessionDeeds, Proper, NoBegin, FreedBy, later, unitsIn, marksIn}
 use Rattle.theory_promises.proofs.Viewing.{wf-shape, wf-sound}
@@ -62,6 +63,10 @@ deeds-run m (d ∷ ds) h e f a =
       freed = λ g l x. ⊎-elim (λ y. v .freed g l y ds) (λ y. later d (q .freed g l y)) (freed-split g (v .run) (q .run) x);
       formed = q .formed;
     }
+
+pub acts-free : (ys : List Act) → unitsIn (map anAct ys) ≡ 0
+acts-free [] = refl
+acts-free (a ∷ ys) = omega (arith, acts-free ys)
 
 pub deeds-formed : (ds : List Deed) (h : Heap) → WellFormed h → AllAllowed ds h → WellFormed (after ds h)
 deeds-formed ds h f a = deeds-run _ ds h refl f a .formed

@@ -1,5 +1,6 @@
 -- Every allowed act on a well-formed heap is a run of moves with no unit among them, and every allowed deed is a run of moves, of which it is
 -- known what they cost, name, take and write.
+--     Linking m h k            where the free list of h is orderly, so is that of k, and the mark rose only where it had to
 --     ActRun m h a             the run that the act a is, and what is known of it
 --     act-run                  every allowed act is one
 --     FreedAt g r, freed-at, freed-split     where in a run a block is freed, by the run's shape
@@ -43,7 +44,11 @@ use Rattle.theory_promises.proofs.Viewing.{here, wf-shape, wf-sound, sh
 use Rattle.theory_promises.proofs.Reaching.{free-view, view-free}
 use Rattle.theory_promises.proofs.UnitMoves.{unit-goes}
 use Rattle.theory_promises.proofs.StoringMoves.{number-move, number-shape, reference-move, reference-shape, root-move, root-shape}
-use Rattle.theory_promises.proofs.TakingMoves.{take-root, take-held, take-shape}
+use Rattle.theory_promises.proofs.TakingMoves.{take-root, take-held, take-shape, take-next}
+use Rattle.theory_promises.proofs.Links.{HeadTaken, Heads, Orderly, Linked, move-linked}
+
+abbrev pub Linking : ℕ → Heap → Heap → Type 0
+Linking m h k = Sound m (view h) → Orderly m (h .regs .free) (view h) → Linked m (k .regs .free) (view h) (view k)
 
 pub record ActRun (m : ℕ) (h : Heap) (a : Act) : Type 0 where
   pub blocks : acted a h .regs .blocks ≡ m
@@ -55,6 +60,7 @@ pub record ActRun (m : ℕ) (h : Heap) (a : Act) : Type 0 where
   pub taken : length (runs.taken run) ≡ takes a
   pub writes : (b w : ℕ) → Live m (view h) b → WritesIn run b w → Writes a b w
   pub root : (SetsRoot a → ⊥) → acted a h .regs .root ≡ h .regs .root
+  pub linked : Linking m h (acted a h)
 
 -- the barrier keeps M, the pace and the root
 barrier-keeps : (f : Regs → ℕ) → ((g : ℕ) (r : Regs) → f (withGrey g r) ≡ f r) → (t : ℕ) (h : Heap) → f (barrier t h .regs) ≡ f (h .regs)
@@ -74,8 +80,8 @@ record Kept (h k : Heap) : Type 0 where
 -- an act that is one move
 one-move : (h : Heap) (a : Act) → Kept h (acted a h) → ((SetsRoot a → ⊥) → acted a h .regs .root ≡ h .regs .root)
     → (v : Move (h .regs .blocks) (view h) (view (acted a h))) → kinds.cost v ≡ 0 → kinds.target v ≡ target a → length (kinds.taking v) ≡ takes a
-    → ((b w : ℕ) → kinds.Writes v b w → Writes a b w) → ActRun (h .regs .blocks) h a
-one-move h a k r v c t n w =
+    → ((b w : ℕ) → kinds.Writes v b w → Writes a b w) → Heads v (h .regs .free) (acted a h .regs .free) → ActRun (h .regs .blocks) h a
+one-move h a k r v c t n w f =
     record {
       blocks = k .blocks;
       pace = k .pace;
@@ -84,33 +90,36 @@ one-move h a k r v c t n w =
       shape = k .shape;
       proper = λ p. (λ z. subst (Reached (view h)) (sym t) (p (λ y. z (t ∙ y))), tt);
       taken = n;
-      writes = λ b u f x. ⊎-elim (λ y. w b u y) (λ y. absurd y) x;
+      writes = λ b u g x. ⊎-elim (λ y. w b u y) (λ y. absurd y) x;
       root = r;
+      linked = λ s o. move-linked s o v f;
     }
 
 pub act-run : (h : Heap) → Shape h → (a : Act) → Allows a h → ActRun (h .regs .blocks) h a
 unfolding acted putNumber putReference taken
 act-run h p (aNumber b w v) a =
     one-move h (aNumber b w v) (record { blocks = refl; pace = refl; shape = number-shape h p b w v a }) (λ n. refl)
-    (writeNumber b w v (number-move h p b w v a)) refl refl refl (λ c u x. (x .block, x .word))
+    (writeNumber b w v (number-move h p b w v a)) refl refl refl (λ c u x. (x .block, x .word)) refl
 act-run h p (aReference b w t) a =
     let kept : Kept h (acted (aReference b w t) h) =
     record { blocks = barrier-keeps (λ r. r .blocks) (λ g r. refl) t h; pace = barrier-keeps (λ r. r .pace) (λ g r. refl) t h; shape = reference-shape h p t b w a } in
     one-move h (aReference b w t) kept (λ n. barrier-keeps (λ r. r .root) (λ g r. refl) t h)
-    (writeRef b w t (reference-move h p t b w a)) refl refl refl (λ c u x. (x .block, x .word))
+    (writeRef b w t (reference-move h p t b w a)) refl refl refl (λ c u x. (x .block, x .word)) (barrier-keeps (λ r. r .free) (λ g r. refl) t h)
 act-run h p (aRoot t) a =
     let kept : Kept h (acted (aRoot t) h) =
     record { blocks = barrier-keeps (λ r. r .blocks) (λ g r. refl) t h; pace = barrier-keeps (λ r. r .pace) (λ g r. refl) t h; shape = root-shape h p t a } in
     one-move h (aRoot t) kept (λ n. absurd (n tt)) (setRoot t (root-move h p t a)) refl refl refl (λ c u x. x)
+    (barrier-keeps (λ r. r .free) (λ g r. refl) t h)
 act-run h p (aTake b w) a =
     let x = h .regs .free in
     let l : b ≢ 0 → Block (h .regs .blocks) b × (w ≤ 7) = holder-zero b w refl (a .0) in
     let kept : Kept h (acted (aTake b w) h) =
     record { blocks = held-keeps (λ r. r .blocks) (λ y r. refl) b w x (taken h); pace = held-keeps (λ r. r .pace) (λ y r. refl) b w x (taken h); shape = take-shape h p b w (a .1) l } in
+    let first : HeadTaken x (view h) x (acted (aTake b w) h .regs .free) = record { first = refl; next = take-next h p b w (a .1) } in
     by-eq b 0
-    (λ z. one-move h (aTake b w) kept (λ n. absurd (n z)) (takeRoot x (take-root h p b w (a .1) z)) refl refl refl (λ c u y. absurd y))
+    (λ z. one-move h (aTake b w) kept (λ n. absurd (n z)) (takeRoot x (take-root h p b w (a .1) z)) refl refl refl (λ c u y. absurd y) first)
     (λ z. one-move h (aTake b w) kept (λ n. take-held h p b w (a .1) z (l z .0) (l z .1) .root)
-    (takeHeld x b w (take-held h p b w (a .1) z (l z .0) (l z .1))) refl refl refl (λ c u y. (y .block, y .word)))
+    (takeHeld x b w (take-held h p b w (a .1) z (l z .0) (l z .1))) refl refl refl (λ c u y. (y .block, y .word)) first)
 
 -- where in a run a block is freed, by the run's shape
 abbrev pub FreedAt : {M : ℕ} {h k : Abs} → ℕ → Run M h k → Type 0
@@ -145,6 +154,7 @@ pub record DeedRun (m : ℕ) (h : Heap) (d : Deed) : Type 0 where
   pub taken : length (runs.taken run) ≡ takings d
   pub begins : (Begins d h → ⊥) → begins run ≡ 0
   pub marks : marks run ≡ marking? d h
+  pub linked : Linking m h (deed d h)
   -- what frees a block is a unit
   pub freed : (g : ℕ) → sums.Block m g → FreedAt g run → (ds : List Deed) → FreedBy g (d ∷ ds) h
 
@@ -163,6 +173,7 @@ deed-run h p s aUnit a =
       taken = q .1;
       begins = λ n. omega (arith, idle-begins (g .move) n);
       marks = ap (λ (x : ℕ). x + 0) (g .marks) ∙ omega arith;
+      linked = λ d o. move-linked d o (g .move) (g .heads);
       freed = λ c l x ds.
           ⊎-elim (λ y. now (λ z. y .0 (free-view z)) (view-free (g .shape) (subst (λ (m : ℕ). Block m c) (sym (g .blocks)) (here l)) (y .1))) (λ y. absurd y) x;
     }
@@ -178,6 +189,7 @@ deed-run h p s (anAct x) a =
       taken = v .taken;
       begins = λ n. acts-begin (v .run) (v .still);
       marks = acts-mark (v .run) (v .still);
+      linked = v .linked;
       freed = λ c l y ds. absurd (acts-freed (v .run) (v .still) l y);
     }
 

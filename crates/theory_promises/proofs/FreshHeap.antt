@@ -1,6 +1,7 @@
 -- A formatted heap is well-formed.
 --     list-word                the words of the free blocks that Format lays out
 --     fresh-tint               every block is free
+--     fresh-orderly            the free list is orderly
 --     fresh-shape, fresh-view, fresh-formed     the formatted heap has the shape, a sound view, and is well-formed
 -- Assumes nothing.
 use Prim.Native.Nat.{ℕ, zero, suc, _+_, _-_, _*_, _≤_, _<_}
@@ -13,7 +14,7 @@ use native.Mathlib.Omega.{arith}
 use lib.Dec.{eqb, leb}
 use lib.ListN.{length, getD, replicate, length-append, length-replicate, getD-replicate, List·getD-append}
 use lib.Seq.{getD-append-add}
-use borrow.Author.Tests.{ne-eqb}
+use borrow.Author.Tests.{eq-eqb, ne-eqb}
 use Rattle.machine.specs.declared.Colour.the-variants.{Free}
 use Rattle.machine.specs.Tests.{if_then_else_}
 use Rattle.machine.specs.Registers.{idle}
@@ -33,6 +34,7 @@ use Rattle.theory_reach.specs.Sums as sums
 use Rattle.theory_moves.specs.Tints as tints
 use Rattle.theory_promises.specs.View.{tintOf, view, Shape}
 use Rattle.theory_promises.proofs.Viewing.{here, shape-wf}
+use Rattle.theory_promises.proofs.Links.{Orderly}
 
 -- the block from which k free blocks go on, and 0 where none does
 abbrev from : ℕ → ℕ → ℕ
@@ -173,6 +175,19 @@ module _ (m u : ℕ) (some : 1 ≤ m) (most : m ≤ 16384) (pace : u ≤ 65535) 
   pub fresh-view : Sound m (view h)
   unfolding formatted
   fresh-view = fresh-sound m (view h) refl refl refl (λ b l. ap tintOf (tint-free b (here l))) (λ b w l. no-bits b w (here l))
+
+  pub fresh-orderly : Orderly m (h .regs .free) (view h)
+  unfolding formatted
+  fresh-orderly =
+      record {
+        head = omega arith;
+        links = λ b l t n. absurd (omega (arith, l .low));
+        above =
+            record {
+              next = λ b l n i. word-at b 0 (here l) (omega arith) ∙ simp (ne-eqb (m + 1 - b) 0 (λ z. absurd (omega arith)));
+              last = λ b l n i. word-at b 0 (here l) (omega arith) ∙ simp (eq-eqb (m + 1 - b) 0 (omega arith));
+            };
+      }
 
   pub fresh-formed : WellFormed h
   unfolding formatted

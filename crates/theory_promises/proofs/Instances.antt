@@ -1,6 +1,6 @@
 -- The promises are not hollow: instances on the machine itself.
 --     closes-has               a list that the test accepts has every reachable block
---     works-good               allocations that the test accepts meet demand 3's premises
+--     works-good, churn-unreset, churn-asks     allocations that the test accepts meet demand 3's premises
 --     marks, sweeps            while marking or sweeping no unit starts a cycle
 --     freed                    a block out of reach is freed by a cycle
 --     survives                 a block out of reach that is stored as a target within the cycle is not
@@ -9,6 +9,7 @@
 --     new-chain                a chain of three blocks reads 0 in 21 fields
 --     hand-arithmetic          cases 12 and 13 of document 01
 --     chains-good              chains that the test accepts meet them
+--     one-more                 an allocation asks for one block
 --     roomy, roomy-chains      200 allocations that meet demand 3's premises, and 60 chains
 -- Assumes nothing.
 use Prim.Native.Nat.{ℕ, zero, suc, _+_, _*_, _≤_}
@@ -145,12 +146,12 @@ works-good (b ∷ bs) h e =
     let t = goes-on g pair (λ k. works bs k) e in
     ((allocate-proper b 0 h, record { list = pair (g .heap); short = omega arith; has = λ x r. closes-has (g .heap) (pair (g .heap)) (t .0) r }), works-good bs (g .heap) (t .1))
 
-churn-unreset : (bs : List ℕ) (h : Heap) → NoReset (churn bs) h
+pub churn-unreset : (bs : List ℕ) (h : Heap) → NoReset (churn bs) h
 unfolding plan
 churn-unreset [] h = tt
 churn-unreset (b ∷ bs) h = (λ z. clash z refl, churn-unreset bs (does (Allocate b 0) h .heap))
 
-churn-asks : (bs : List ℕ) (h : Heap) → Asking 1 (churn bs) h
+pub churn-asks : (bs : List ℕ) (h : Heap) → Asking 1 (churn bs) h
 unfolding plan
 churn-asks [] h = tt
 churn-asks (b ∷ bs) h = (omega arith, churn-asks bs (does (Allocate b 0) h .heap))
@@ -321,7 +322,7 @@ enough = rw nine (omega arith)
 one-at-a-time : Asking 1 long (formatted 20 5)
 one-at-a-time = churn-asks (byTurns rooted) (formatted 20 5)
 
-one-more : (b w : ℕ) (h : Heap) → asks (Allocate b w) h ≤ 1
+pub one-more : (b w : ℕ) (h : Heap) → asks (Allocate b w) h ≤ 1
 unfolding plan
 one-more b w h = omega arith
 

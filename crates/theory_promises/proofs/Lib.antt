@@ -4,6 +4,7 @@ pub mod Buffers
 pub mod Greys
 pub mod Recolouring
 pub mod Coursing
+pub mod Links
 pub mod MarkingMoves
 pub mod SweepingMoves
 pub mod Counts
@@ -28,6 +29,9 @@ pub mod Telling
 pub mod Chaining
 pub mod Collecting
 pub mod Bounding
+pub mod Peaks
 pub mod Rooming
+pub mod Sharper
 pub mod Instances
 pub mod CycleInstances
+pub mod SharperInstances

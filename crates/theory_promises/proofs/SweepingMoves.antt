@@ -1,6 +1,6 @@
 -- The units of the sweep are moves: the block at the position is freed, whitened or passed. Each keeps the heap's shape.
 --     onward                   the position goes on, or the sweep ends
---     reclaim-move, reclaim-shape     a white block is freed
+--     reclaim-move, reclaim-link, reclaim-shape     a white block is freed, and linked to the one that was the first
 --     whiten-move, whiten-shape       a black block becomes white
 --     pass-move, pass-shape           a free block is passed
 -- Assumes nothing.
@@ -294,6 +294,11 @@ module _ (h : Heap) (p : Shape h) (s : h .regs .phase ≡ sweeping) where
       where
         tint-on : (c : ℕ) → view (heap (advance counted-up) words′ (freer .cells) bytes′) .tint c ≡ TintIn freer c
         tint-on c = ap (λ (j : Colouring). TintIn j c) (advance-colours counted-up (freer .cells) refl refl)
+
+    -- the block freed is linked to the one that was the first
+    pub reclaim-link : wordOf (reclaimed h .words) at 0 ≡ h .regs .free
+    unfolding reclaimed
+    reclaim-link = words-here 0 (omega arith)
 
     pub reclaim-shape : h .regs .count ≢ m → Shape (reclaimed h)
     unfolding reclaimed

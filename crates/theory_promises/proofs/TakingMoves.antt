@@ -1,5 +1,5 @@
 -- An allocation, once its units are done, is a move: the first free block is taken, for a holder or for the root. It keeps the heap's shape.
---     first-in                 a list that isn't at its end has its first
+--     first-in, none-long      a list that isn't at its end has its first, and one that is has none
 --     first-free, next-free    the free head, and the link of the first free block, are 0 or free blocks
 --     head-count, count-head   the free head is 0 exactly where the free count is
 --     list-emptied, list-first, list-seven, list-sound     the free list is refused by 7 exactly where the free count is 0, and never by 8
@@ -65,7 +65,7 @@ module _ {next : ℕ → ℕ} {end : ℕ} where
   next-in (ends e) n o = absurd (n e)
   next-in (goes m d) n o = List·Memᴰ·tail (first-in d o)
 
-  none-long : {a : ℕ} {l : List ℕ} → Listed next end a l → a ≡ end → length l ≡ 0
+  pub none-long : {a : ℕ} {l : List ℕ} → Listed next end a l → a ≡ end → length l ≡ 0
   none-long (ends e) z = refl
   none-long (goes n d) z = absurd (n z)
 

@@ -40,8 +40,9 @@ use Rattle.theory_promises.specs.View.{tintOf, view, Shape}
 use Rattle.theory_promises.proofs.Viewing.{there, colour-is, allocated-tint, names-ref}
 use Rattle.theory_promises.proofs.Coursing.{turned-same, advance-same}
 use Rattle.theory_promises.proofs.MarkingMoves.{begin-move, begin-shape, mark-move, mark-shape, turn-move, turn-shape}
-use Rattle.theory_promises.proofs.SweepingMoves.{position-block, reclaim-move, reclaim-shape, whiten-move, whiten-shape, pass-move, pass-shape}
+use Rattle.theory_promises.proofs.SweepingMoves.{position-block, reclaim-move, reclaim-link, reclaim-shape, whiten-move, whiten-shape, pass-move, pass-shape}
 use Rattle.theory_promises.proofs.Counts.{free-count, not-all-free}
+use Rattle.theory_promises.proofs.Links.{onto, past, Heads}
 
 pub record Goes (h : Heap) (e : UnitEnd) : Type 0 where
   pub finished : e .finished ≡ true
@@ -50,6 +51,8 @@ pub record Goes (h : Heap) (e : UnitEnd) : Type 0 where
   pub move : Move (h .regs .blocks) (view h) (view (e .heap))
   pub unit : cost move ≡ 1
   pub marks : moves-kinds.marked move ≡ marking? aUnit h
+  -- what becomes of the first free block
+  pub heads : Heads move (h .regs .free) (e .heap .regs .free)
   pub shape : Shape (e .heap)
 
 -- references that are all 0 or allocated
@@ -92,6 +95,7 @@ module _ (h : Heap) (p : Shape h) (d : Sound (h .regs .blocks) (view h)) where
         move = begin (begin-move h p i (root-white i));
         unit = refl;
         marks = simp (ne-eqb (h .regs .phase) marking (λ z. absurd (omega arith)));
+        heads = refl;
         shape = begin-shape h p i (root-white i);
       })
 
@@ -106,6 +110,7 @@ module _ (h : Heap) (p : Shape h) (d : Sound (h .regs .blocks) (view h)) where
         move = turn (turn-move h p k o);
         unit = refl;
         marks = simp (eq-eqb (h .regs .phase) marking k, eq-eqb (h .regs .grey) 1 o);
+        heads = turned-same (λ r. r .free) _ (λ x y r. refl);
         shape = turn-shape h p k o;
       })
 
@@ -144,6 +149,7 @@ module _ (h : Heap) (p : Shape h) (d : Sound (h .regs .blocks) (view h)) where
         move = mark first (mark-move h p k n);
         unit = refl;
         marks = simp (eq-eqb (h .regs .phase) marking k, ne-eqb (h .regs .grey) 1 n);
+        heads = refl;
         shape = mark-shape h p k n;
       }))
 
@@ -164,6 +170,7 @@ module _ (h : Heap) (p : Shape h) (d : Sound (h .regs .blocks) (view h)) where
         move = sweep (reclaim-move h p s w);
         unit = refl;
         marks = simp (ne-eqb (h .regs .phase) marking (λ z. absurd (omega arith)));
+        heads = onto (ap tintOf w) (advance-same (λ r. r .free) _ (λ x y r. refl)) (reclaim-link h p s w);
         shape = reclaim-shape h p s w n;
       }))
   sweep-goes s Black w =
@@ -175,6 +182,7 @@ module _ (h : Heap) (p : Shape h) (d : Sound (h .regs .blocks) (view h)) where
         move = sweep (whiten-move h p s w);
         unit = refl;
         marks = simp (ne-eqb (h .regs .phase) marking (λ z. absurd (omega arith)));
+        heads = past (λ z. never (cc)) (advance-same (λ r. r .free) _ (λ x y r. refl));
         shape = whiten-shape h p s w;
       })
   sweep-goes s Free w =
@@ -186,6 +194,7 @@ module _ (h : Heap) (p : Shape h) (d : Sound (h .regs .blocks) (view h)) where
         move = sweep (pass-move h p s w);
         unit = refl;
         marks = simp (ne-eqb (h .regs .phase) marking (λ z. absurd (omega arith)));
+        heads = past (λ z. never (cc)) (advance-same (λ r. r .free) _ (λ x y r. refl));
         shape = pass-shape h p s w;
       })
   sweep-goes s Grey e = absurd (d .sweptGrey s (h .regs .position) (there (position-block h p s)) (ap tintOf e))

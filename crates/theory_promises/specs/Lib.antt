@@ -8,6 +8,8 @@ pub mod Sessions
 pub mod Told
 pub mod Demand2
 pub mod Demand3
+pub mod Sharper
 pub mod View
 pub mod Instances
 pub mod CycleInstances
+pub mod SharperInstances
