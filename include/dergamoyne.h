@@ -124,8 +124,8 @@
 #include <stdint.h>
 
 /* The version: 1,000,000 for each major, 1,000 for each minor, 1 for each patch. */
-#define DERGAMOYNE_VERSION 7000u
-#define DERGAMOYNE_VERSION_TEXT "0.7.0"
+#define DERGAMOYNE_VERSION 8000u
+#define DERGAMOYNE_VERSION_TEXT "0.8.0"
 
 /* Marks a function whose answer must not be ignored: the compiler warns if it is. */
 #ifndef DERGAMOYNE_MUST_USE

@@ -18,9 +18,9 @@ noIndex = 4294967295
 unfoldable pub lookIndex : ℕ → Heap → ℕ
 lookIndex b h = if eqb (readRefusal b 0 h) 0 then lookAt b h else noIndex
 
--- 0.7.0
+-- 0.8.0
 unfoldable pub version : ℕ
-version = 7000
+version = 8000
 
 unfoldable pub recordSize : ℕ
 recordSize = size Regs.mir

@@ -39,7 +39,7 @@ pub struct LookAnswer {
 pub extern "C" fn dergamoyne_version() -> u32
     ensures { λ n. ⌜ n ≡ version ⌝ }
 {
-    7000
+    8000
 }
 
 // How many bytes a register record takes in memory.

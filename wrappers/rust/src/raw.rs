@@ -68,7 +68,7 @@ pub struct WhyAnswer {
 }
 
 /// The version of the library that this crate is for, as `dergamoyne_version` gives it.
-pub const VERSION: u32 = 7000;
+pub const VERSION: u32 = 8000;
 
 // The library is for processors with lengths of 64 bits.
 const _: () = assert!(std::mem::size_of::<usize>() == 8);

@@ -344,6 +344,6 @@ fn threads() {
 /// The library is the one that the crate is for.
 #[test]
 fn version() {
-    assert_eq!(calls::version(), 7000);
+    assert_eq!(calls::version(), 8000);
     assert!(calls::fits_library());
 }
