@@ -7,8 +7,8 @@
 
    A line of output is a call: its name, M, the measure's name, the units asked for where the measure is of units (else 0), and
    with `steps` the call's instructions. With `lines` another program counts them. `calls` prints a line for every call made,
-   `long` for every Allocate, `small` for every Allocate and every Work; a call that only prepares has `-` for its measure. Every heap laid out here is one that the audit
-   accepts. */
+   `long` for every Allocate, `small` for every Allocate and every Work; a call that only prepares has `-` for its measure. Every heap
+   laid out here is one that the audit accepts. */
 #include "machine.h"
 #include "steps.h"
 #include <stdio.h>

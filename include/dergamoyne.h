@@ -103,7 +103,7 @@
    by name and not by order, and compile with the header of the version that you link. You may read the fields; only the calls
    should write to them. A program that keeps a record of its own has to be compiled again when the record grows, as it did with
    0.7.0, which added mark. A record that an earlier version kept doesn't have that field; take its heap over by an image, which
-   Load reads from every earlier version.
+   0.5.0 and 0.6.0 write and Load reads.
 
 
    WHAT IS PROVED
@@ -164,8 +164,8 @@ enum {
 #define DERGAMOYNE_NO_INDEX 4294967295u
 
 /* REFUSALS, in the order in which they are tested. A refused call has the value 0 and changes nothing, neither the record nor a
-   buffer, with one exception: Work, Allocate and Allocate chain do units before some of their tests. The units that they finished before the
-   refusal stay done and are counted in the answer. With 1, 2, 9, 3 and 4 there are none. */
+   buffer, with one exception: Work, Allocate and Allocate chain do units before some of their tests. The units that they finished
+   before the refusal stay done and are counted in the answer. With 1, 2, 9, 3 and 4 there are none. */
 enum dergamoyne_refusal {
     DERGAMOYNE_DONE = 0,           /* not refused */
     DERGAMOYNE_DOES_NOT_FIT = 1,   /* M isn't 1 to 16,384, U is above 65,535, or the lengths aren't 8M, M and M. Format tests
@@ -208,7 +208,8 @@ struct dergamoyne_regs {
     uint32_t root;     /* the root, 0 if there is none */
     uint32_t cycle;    /* how many cycles have begun; after 4,294,967,295 comes 0 */
     uint32_t mark;     /* the highest block handed out since Format, 1 if there is none: the sweep ends after it, since the blocks
-                          above it are free. It never falls, except by Format and Load. It has nothing to do with marking */
+                          above it are free. It never falls, except by Format and Load. It has nothing to do with marking. On a
+                          heap that wasn't loaded, mark less 1 is the most blocks that were ever allocated at once */
 };
 
 /* What most calls answer: a refusal or 0; a value, 0 if the call has none or is refused; and the units done. */
@@ -264,7 +265,7 @@ struct dergamoyne_export_answer {
        REACHABLE   References lead to it from the root, so it stays. The path shows one way. Put the null reference, or another
                    block, into one of the words on it, preferably the one that you forgot, and ask again: there may be another path.
        KEPT        Nothing leads to it from the root any more, but the collector has not found that out. It is freed by the end of
-                   the next cycle that begins, unless until then a store or a root change names a block that nothing leads to.
+                   the next cycle that begins, unless by then a store or a root change has named a block that nothing leads to.
                    If that takes too long, call Work. The state says how far the running cycle is with it: grey and black blocks
                    outlast this cycle; a live white one is not met yet, or the sweep has passed it already.
 
@@ -394,10 +395,10 @@ DERGAMOYNE_MUST_USE struct dergamoyne_answer dergamoyne_set_root(
     struct dergamoyne_regs *regs, uint32_t *words, size_t words_length, uint32_t *colours, size_t colours_length,
     uint8_t *bytes, size_t bytes_length, uint32_t t);
 
-/* Work: does n units, at most 65,535, when your program has time. A cycle of the collector has 2 units, one for each block that it
-   marks, and one for each block at or below the mark, which it sweeps: 2 * mark at most. A block that can't be reached when a cycle begins has been freed by its end, unless a store or a root
-   change named an unreachable block in the meantime. Refusals: 1, 2, 9; 8 if a unit meets damage, and then the units before it
-   stay done. */
+/* Work: does n units, at most 65,535, when your program has time. A cycle of the collector takes two units, and one more for each
+   block that it marks and for each block at or below the mark, which it sweeps: at most 2 * mark in all. A block that can't be
+   reached when a cycle begins has been freed by its end, unless a store or a root change named an unreachable block in the meantime.
+   Refusals: 1, 2, 9; 8 if a unit meets damage, and then the units before it stay done. */
 DERGAMOYNE_MUST_USE struct dergamoyne_answer dergamoyne_work(
     struct dergamoyne_regs *regs, uint32_t *words, size_t words_length, uint32_t *colours, size_t colours_length,
     uint8_t *bytes, size_t bytes_length, uint32_t n);
@@ -430,8 +431,8 @@ DERGAMOYNE_MUST_USE struct dergamoyne_export_answer dergamoyne_export_objects(
 /* CALLS THAT YOU USE ONCE, OR SELDOM. Their cost grows with M. */
 
 /* Format: makes a heap of m blocks with the pace u, whatever the record and the buffers contained. All blocks are free, there is
-   no root, the collector is idle, the cycle number is 0, and the mark is 1. The lengths must fit m. Refusal: 1, and then the old heap is as it
-   was. */
+   no root, the collector is idle, the cycle number is 0, and the mark is 1. The lengths must fit m. Refusal: 1, and then the old
+   heap is as it was. */
 DERGAMOYNE_MUST_USE struct dergamoyne_answer dergamoyne_format(
     struct dergamoyne_regs *regs, uint32_t *words, size_t words_length, uint32_t *colours, size_t colours_length,
     uint8_t *bytes, size_t bytes_length, uint32_t m, uint32_t u);

@@ -23,7 +23,7 @@
      clearing it each have their own function. A holder 0 is refused by 3, a target 0 by 4.
    - An object is held by a field of another, so its holder's links stay as they are.
    - An export that is not complete gives no number of rows.
-   - Why has one buffer for the path and for its work, and where there is no path the number of pairs is 0.
+   - Why takes one buffer for the path and for its work. If there is no path, the number of pairs is 0.
    - Opening a heap tests that this header and the library have the same version. */
 #ifndef DERGAMOYNE_HEAP_H
 #define DERGAMOYNE_HEAP_H
@@ -32,8 +32,9 @@
 #include <stdlib.h>
 #include <string.h>
 
-/* A heap: its record, its buffers with their lengths, and the memory that it owns, or NULL if the memory was lent. Leave the fields
-   to the functions below. Don't use a copy of the struct beside the original: both records would be about the same buffers. */
+/* A heap: its record, its buffers with their lengths, and the memory that it owns, or NULL if the memory was lent. You may read the
+   registers in regs, for example regs.mark, by which docs/SIZING.md tells how large a heap has to be; all else leave to the functions
+   below. Don't use a copy of the struct beside the original: both records would be about the same buffers. */
 struct dergamoyne_heap {
     struct dergamoyne_regs regs;
     uint32_t *words, *colours;
@@ -562,7 +563,7 @@ DERGAMOYNE_REFUSABLE dergamoyne_heap_work(struct dergamoyne_heap *h, uint32_t un
 }
 
 /* Frees everything that can't be reached: it finishes the running cycle and then does a whole one. The cost grows with the number
-   of blocks that were ever in use since the heap was opened. Refusals: 1, 2; 8. */
+   of blocks that were ever in use (regs.mark). Refusals: 1, 2; 8. */
 DERGAMOYNE_REFUSABLE dergamoyne_heap_collect(struct dergamoyne_heap *h)
 {
     uint32_t cycle = h->regs.mark <= DERGAMOYNE_MOST_BLOCKS + 1 ? 2 * h->regs.mark : 0; /* the most units a cycle takes */
@@ -627,11 +628,12 @@ struct dergamoyne_why {
 /* The rows that dergamoyne_heap_why needs on a heap of m blocks: m for the path, and as many to work in. */
 #define DERGAMOYNE_WHY_ROWS(m) (2 * (size_t)(m))
 
-/* Tells why a block is still here; dergamoyne.h says what each reason means and what to do. `path` has `rows` rows,
-   DERGAMOYNE_WHY_ROWS(blocks) at least, and whatever they contain is gone. Afterwards path[0] to path[why->pairs - 1] are the path
-   from the root to the block, path[i][0] a block and path[i][1] the word in it that names the next; all other rows are 0. The cost
-   grows with the number of blocks. It is for finding out why memory doesn't shrink, not for every call. Refusals: 1; 10 for a heap
-   that dergamoyne_heap_check turns down; 3 for the block; 13 for too few rows. A refusal writes nothing, and leaves *why alone. */
+/* Tells why a block is still here; dergamoyne.h says what each reason means and what to do. `path` has `rows` rows, at least
+   DERGAMOYNE_WHY_ROWS(blocks). What they contain before doesn't matter. Afterwards path[0] to path[why->pairs - 1] are the path from
+   the root to the block, path[i][0] a block and path[i][1] the word in it that names the next; all other rows are 0. The root itself
+   is reachable with no pairs. The cost grows with the number of blocks. It is for finding out why memory doesn't shrink, not for
+   every call. Refusals: 1; 10 for a heap that dergamoyne_heap_check turns down; 3 for the block; 13 for too few rows. A refusal
+   writes nothing, and leaves *why alone. */
 DERGAMOYNE_REFUSABLE dergamoyne_heap_why(const struct dergamoyne_heap *h, uint32_t block, uint32_t (*path)[2], size_t rows,
                                          struct dergamoyne_why *why)
 {

@@ -39,7 +39,7 @@ struct counts count_states(const struct dergamoyne_heap *heap);
 /* "idle", "marking" or "sweeping". */
 const char *phase_text(const struct dergamoyne_heap *heap);
 
-/* The registers with their names, in the order of document 01. */
+/* The registers with their names, in the order of document 01, and the mark of document 02 behind them. */
 enum { REGISTERS = 10 };
 struct register_text {
     const char *name;

@@ -77,7 +77,7 @@ static int has_other_count(const struct image *image, char *text)
     uint32_t count = register_count(image);
     if (count == IMAGE_REGISTERS || count == IMAGE_EARLIER_REGISTERS)
         return 0;
-    snprintf(text, FAULT_ROOM, "registers: the file begins with the number %u, and an image with %d or %d, which is how many it has",
+    snprintf(text, FAULT_ROOM, "registers: the file begins with the number %u, and an image with the count of its registers, %d or %d",
              (unsigned)count, IMAGE_REGISTERS, IMAGE_EARLIER_REGISTERS);
     return 1;
 }
@@ -152,6 +152,21 @@ static int has_other_colour(const struct image *image, char *text)
     return 0;
 }
 
+/* A block above the mark that isn't free. */
+static int has_other_mark(const struct image *image, char *text)
+{
+    struct dergamoyne_regs regs = registers_of(image);
+    for (uint32_t b = regs.mark + 1; b <= regs.blocks + 1; b++) {
+        uint32_t found = state(regs, b).value;
+        if (found != DERGAMOYNE_STATE_FREE) {
+            snprintf(text, FAULT_ROOM, "contents: block %u, above the mark %u, is %s and not free", (unsigned)b, (unsigned)regs.mark,
+                     dergamoyne_state_text(found));
+            return 1;
+        }
+    }
+    return 0;
+}
+
 static int has_other_free_count(const struct image *image, char *text)
 {
     struct dergamoyne_regs regs = registers_of(image);
@@ -207,9 +222,10 @@ void fault_find(const struct image *image, char text[FAULT_ROOM])
 {
     if (is_short(image, text) || has_other_count(image, text) || has_other_blocks(image, text) || has_other_length(image, text) ||
         has_illegal_registers(image, text) || has_other_section(image, text) || has_other_colour(image, text) ||
-        has_other_free_count(image, text) || has_other_root(image, text) || has_other_references(image, text))
+        has_other_mark(image, text) || has_other_free_count(image, text) || has_other_root(image, text) || has_other_references(image, text))
         return;
-    snprintf(text, FAULT_ROOM, "contents: the audit turns the list of free or of grey blocks down, or a colour that doesn't suit the phase");
+    snprintf(text, FAULT_ROOM, "contents: the audit turns the list of free or of grey blocks down, or a free block that isn't empty, "
+                               "or a colour that doesn't suit the phase");
 }
 
 enum status fault_say(const struct image *image)

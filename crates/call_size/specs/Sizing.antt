@@ -1,5 +1,5 @@
 -- The premises of demand 3 and of its sharper form, as tests.
---     enough m u k         "with N = (2M + 2)/U rounded up, K + 2N ≤ M": a heap of m blocks with pace u has room for k reachable blocks
+--     enough m u k         with N = (2M + 2)/U rounded up, K + 2N ≤ M: a heap of m blocks with pace u has room for k reachable blocks
 --     suffices p u k b     with N' = (K + P + 2)/U rounded up, K + 2N' + B - 1 ≤ P: p blocks with pace u are enough for k reachable ones, where no
 --                          call asks for more than b blocks
 --     Least u k b r        r is the fewest blocks from 1 to 16,384 that are enough, and 0 where none are

@@ -1,5 +1,6 @@
 // Why: the reason why a block is still here, and for a reachable one a shortest path to it from the root.
-// The heap is audited first, and stays as it is. Its cost is linear in M; what it writes to is the three lent buffers alone.
+// The heap is audited first, and stays as it is. Its cost is linear in M and in the lent buffers' lengths; what
+// it writes to is these three buffers alone.
 use machine::Colour;
 use machine::Reason;
 use machine::Regs;

@@ -1,11 +1,12 @@
 -- "Checked by hand": the cases of document 01 that are marked P, as one table under one statement.
 -- Cases 4 to 8 are worked out afresh, with the same inputs, as document 02's request L7 asks: the sweep now ends after the mark.
 -- A case is a list of calls on lent buffers of the right lengths, what is looked at after them (what one more call gives, or how many
--- units the calls of a cycle answer in all), and what document 01 says stands there.
+-- units the calls of a cycle answer in all), and what stands there: what document 01 says, and for 4 to 8
+-- and the first half of 10 what document 02 makes of it.
 --     lent m               registers and buffers as a host lends them for m blocks, all 0
 --     unitsOver cs h       the units that the calls cs answer, one call after another from the heap h, added up
 --     table                the cases
---     HandChecked          each case shows what document 01 says
+--     HandChecked          each case shows what is said there
 -- Assumes nothing.
 use Prim.Native.Nat.{ℕ, _+_, _-_, _*_}
 use mathlib.Core.Path.{_≡_}

@@ -1,5 +1,5 @@
--- The machine of document 01, one notion a file. Read in this order.
--- Ready and Seen are not of document 01: they say what parts of the code leave to each other.
+-- The machine of documents 01 and 02, one notion a file. Read in this order.
+-- Ready, Seen and Searched are of neither document: they say what parts of the code leave to each other.
 pub mod Tests
 pub mod Rounding
 pub mod Registers

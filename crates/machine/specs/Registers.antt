@@ -1,4 +1,4 @@
--- The register record: its setters, and the registers of a fresh heap. No other definition writes the record out.
+-- The register record: its setters, and the registers of a fresh heap. No other definition writes the record out but `regsOf` (Image.antt).
 -- "Register record: M; pace U (0 to 65,535); phase (0 idle, 1 marking, 2 sweeping); grey head (1 when none); free head; free count;
 -- sweep position; root (0 or a block); cycle number, which goes from 4,294,967,295 back to 0."
 -- "Keep in the register record the highest block number handed out since format (the mark; 1 when none)."

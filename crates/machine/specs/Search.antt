@@ -1,5 +1,5 @@
 -- A search from the root, breadth first: which blocks it finds, in which order, and how it came to each.
--- Nothing here knows where a heap lies: a block's references are a function from a word's number to what the word names.
+-- But for namedOf and searchOf nothing here knows where a heap lies: a block's references are a function from a word's number to what the word names.
 --     namedIn part byte w  what word w of a block with these eight words and this byte names; 0 where the word is no reference
 --     Found                the blocks found, in the order found, and for each block how it was come to
 --     cameTo came x        how x was come to: 0 not at all, 1 as the root, 8 · b + w by word w of the block b

@@ -1,5 +1,5 @@
 -- What a search leaves behind, as facts about numbers: what the code that searches, and the code that reads a path off it, rely on.
---     nonZeros ns            how many of the numbers aren't 0
+--     nonZeros ns          how many of the numbers aren't 0
 --     Ways m came          whatever was come to by a word was come to from a block
 --     Searched m f         what holds of f at every step of a search among m blocks
 -- Assumes nothing.

@@ -10,7 +10,7 @@ use Rattle.machine.specs.State.{stateOf}
 use Rattle.machine.specs.Entry.{entry}
 use Rattle.machine.specs.Answers.{Given, done, unless}
 
--- "value 1 live white, 2 doomed, 3 grey, 4 black, 5 free, 6 outside"
+-- 1 live white, 2 doomed, 3 grey, 4 black, 5 free, 6 outside
 abbrev pub stateNumber : State → ℕ
 stateNumber LiveWhite = 1
 stateNumber Doomed = 2
@@ -19,6 +19,6 @@ stateNumber Black = 4
 stateNumber Free = 5
 stateNumber Outside = 6
 
--- "for any number; a number that is no block is outside the layout"; "refusals 1 and 2, else value 1 .."
+-- for any number, refused by 1 and 2 alone; a number that is no block is outside the layout
 unfoldable pub tellState : ℕ → Heap → Given
 tellState b h = unless (entry h) h (done (stateNumber (stateOf h b)) h)

@@ -8,7 +8,7 @@
 --     Live M h b           an allocated block that isn't doomed
 --     Sound M h            what every move keeps
 --     span h               how many blocks lie at or below the mark: those that a sweep visits
--- The mark is the highest block number handed out so far, 1 where none was.
+-- No block above the mark was handed out so far; it is 1 where none was.
 -- "0 or P x" is always said as: x ≢ 0 → P x.
 -- Assumes nothing.
 use Prim.Native.Nat.{ℕ, _+_, _-_, _≤_, _<_}

@@ -1,4 +1,4 @@
--- How large a heap has to be: demand 3 in the abstract, sharper. Demand 3 stays beside it, and follows from it.
+-- How large a heap has to be: demand 3 in the abstract, sharper. Demand 3 stays beside it; its room and its margin follow from it.
 --     MarksReachable       a cycle marks only blocks that were reachable when it began: at most K, so it takes at most K + H + 2 units
 --     RoomWithin           with at most P blocks at or below the mark: how many blocks are allocated, with those about to be taken
 --     SharperRoom, SharperMargin     EnoughRoom and RoomMargin with a smaller N

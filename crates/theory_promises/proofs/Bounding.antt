@@ -25,7 +25,7 @@ use Rattle.theory_moves.proofs.Bounds as bounds
 use Rattle.theory_promises.specs.View.{tintOf, view, Shape}
 use Rattle.theory_promises.specs.Deeds.{Deed, aUnit, deed, AllAllowed, after}
 use Rattle.theory_promises.specs.Sessions.{NoReset, sessionDeeds, NoBegin, unitsIn, marking?, marksIn}
-use Rattle.theory_promises.specs.Demand3.{allocatedBlocks, blocksToMark, thenUnit, CycleShort}
+use Rattle.theory_promises.specs.Demand3.{allocatedBlocks, blocksUpToMark, thenUnit, CycleShort}
 use Rattle.theory_promises.proofs.Viewing.{wf-shape, wf-sound}
 use Rattle.theory_promises.proofs.Counts.{one, count-sum, free-count, mark-count}
 use Rattle.theory_promises.proofs.UnitMoves.{unit-goes, unit-begins}
@@ -91,7 +91,7 @@ module _ (h : Heap) (f : WellFormed h) (ys : List Deed) (a : AllAllowed ys (deed
   abbrev later : Heap
   later = after ys (deed aUnit h)
 
-  units-most : unitsIn (aUnit ∷ ys) ≤ allocatedBlocks h + blocksToMark later + 2
+  units-most : unitsIn (aUnit ∷ ys) ≤ allocatedBlocks h + blocksUpToMark later + 2
   units-most =
       omega (
         arith,
@@ -103,7 +103,7 @@ module _ (h : Heap) (f : WellFormed h) (ys : List Deed) (a : AllAllowed ys (deed
 
   -- the unit that follows is the cycle's last
   units-exact : later .regs .phase ≢ idle → deed aUnit later .regs .phase ≡ idle
-      → unitsIn (aUnit ∷ ys) + 1 ≡ 2 + (marksIn ys (deed aUnit h) + marking? aUnit later) + blocksToMark (deed aUnit later)
+      → unitsIn (aUnit ∷ ys) + 1 ≡ 2 + (marksIn ys (deed aUnit h) + marking? aUnit later) + blocksUpToMark (deed aUnit later)
   units-exact o z =
       let u = subst (λ (m : ℕ). UnitMove m later) (run-of .blocks) (unit-move later (run-of .formed)) in
       let e = ended-here o z (u .move) in
@@ -143,5 +143,5 @@ cycle-short =
           let w = after-then ys k in
           let a = allowed-left ys (aUnit ∷ []) k (c .allowed) in
           let x = units-exact (after xs h) (c .formed) ys a i (o .0) (o .1) (ap (λ (j : Heap). j .regs .phase) (sym w) ∙ z) in
-          omega (arith, x, units-then ys, marks-then ys k, ap blocksToMark w);
+          omega (arith, x, units-then ys, marks-then ys k, ap blocksUpToMark w);
     }

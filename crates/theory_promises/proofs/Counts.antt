@@ -27,7 +27,7 @@ use Rattle.theory_moves.specs.Tints.{Tint}
 use Rattle.theory_moves.specs.Demand3.{lies, unused}
 use Rattle.theory_moves.specs.Tints as tints
 use Rattle.theory_promises.specs.View.{tintOf, view, Shape}
-use Rattle.theory_promises.specs.Demand3.{blocksToMark}
+use Rattle.theory_promises.specs.Demand3.{blocksUpToMark}
 use Rattle.theory_promises.proofs.Viewing.{there}
 use Rattle.theory_promises.proofs.Recolouring.{free-of, of-free}
 
@@ -90,5 +90,5 @@ module _ (h : Heap) (p : Shape h) where
       let f = total-ones m (λ c. 1) (λ c k. refl) in
       omega arith
 
-  pub mark-count : blocksToMark h + 1 ≡ h .regs .mark
+  pub mark-count : blocksUpToMark h + 1 ≡ h .regs .mark
   mark-count = let d = p .ready .marked in omega (arith, low-count (h .regs .mark) m 2 (omega arith))

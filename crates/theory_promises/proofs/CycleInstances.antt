@@ -14,7 +14,7 @@ use Rattle.machine.proofs.Computing.{the-machine}
 use Rattle.theory_promises.specs.Deeds.{aTake, acted, Deed, aUnit, anAct, deed, after}
 use Rattle.theory_promises.specs.Plans.{plan}
 use Rattle.theory_promises.specs.Sessions.{NoReset, sessionDeeds, unitsIn, marksIn}
-use Rattle.theory_promises.specs.Demand3.{allocatedBlocks, blocksToMark, thenUnit}
+use Rattle.theory_promises.specs.Demand3.{allocatedBlocks, blocksUpToMark, thenUnit}
 use Rattle.theory_promises.specs.CycleInstances.{Cycle, Counts, twoTaken, taking, both, large, Sparse, small, Rising, unused, Skipped}
 use Rattle.theory_promises.proofs.FreshHeap.{fresh-formed}
 use Rattle.theory_promises.proofs.Bounding.{cycle-short}
@@ -23,7 +23,7 @@ use Rattle.theory_promises.proofs.Instances.{marks, sweeps}
 -- what is counted, and the promise of it
 module _ {h : Heap} {cs : List Call} {xs ys zs : List Deed} (c : Cycle h cs xs ys zs) (f : WellFormed h) (n : NoReset cs h) where
   counts : {u a m k : ℕ} → unitsIn (aUnit ∷ thenUnit ys) ≡ u → allocatedBlocks (after xs h) ≡ a
-      → marksIn (thenUnit ys) (deed aUnit (after xs h)) ≡ m → blocksToMark (after (thenUnit ys) (deed aUnit (after xs h))) ≡ k → Counts h xs ys u a m k
+      → marksIn (thenUnit ys) (deed aUnit (after xs h)) ≡ m → blocksUpToMark (after (thenUnit ys) (deed aUnit (after xs h))) ≡ k → Counts h xs ys u a m k
   counts p q r t =
       let e = cycle-short .exact h f cs n xs ys zs (c .deeds) (c .starts) (c .begun) (c .ends) in
       let l = cycle-short .short h f cs n xs (thenUnit ys) zs (c .deeds) (c .starts) (c .begun) in

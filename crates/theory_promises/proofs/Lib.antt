@@ -29,6 +29,7 @@ pub mod Telling
 pub mod Chaining
 pub mod Collecting
 pub mod Bounding
+pub mod Marks
 pub mod Peaks
 pub mod Rooming
 pub mod Sharper

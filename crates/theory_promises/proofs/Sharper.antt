@@ -30,7 +30,7 @@ use Rattle.theory_promises.specs.Reachable.{Reachable}
 use Rattle.theory_promises.specs.Deeds.{Deed, aUnit, deed, after}
 use Rattle.theory_promises.specs.Plans.{asks}
 use Rattle.theory_promises.specs.Sessions.{unitsIn, marksIn}
-use Rattle.theory_promises.specs.Demand3.{blocksToMark, Few, Premises, Asking}
+use Rattle.theory_promises.specs.Demand3.{blocksUpToMark, Few, Premises, Asking}
 use Rattle.theory_promises.specs.Sharper.{shortCycles, ProperCycle, CycleShorter, SharperRoomFor, SharperMarginFor, RestUntouched}
 use Rattle.theory_promises.proofs.Viewing.{wf-shape, wf-sound}
 use Rattle.theory_promises.proofs.Reaching.{view-reachable}
@@ -77,7 +77,7 @@ module _ (h : Heap) (cs : List Call) (xs ys zs : List Deed) (c : ProperCycle h c
         let w = few-view k start f in
         omega (arith, ran .marks, marks-reachable .few (wf-sound start formed) first w (ran .run) (ran .begins (c .begun)) (ran .proper (c .proper)))
 
-    units-few : unitsIn (aUnit ∷ ys) ≤ k + blocksToMark later + 2
+    units-few : unitsIn (aUnit ∷ ys) ≤ k + blocksUpToMark later + 2
     units-few =
         let w = few-view k start f in
         omega (

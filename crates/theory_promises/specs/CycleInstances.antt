@@ -17,7 +17,7 @@ use Rattle.machine.specs.Session.{Call, session}
 use Rattle.machine.specs.Session.Call.{Allocate, Work}
 use Rattle.theory_promises.specs.Deeds.{aTake, Deed, aUnit, anAct, deed, after}
 use Rattle.theory_promises.specs.Sessions.{sessionDeeds, NoBegin, unitsIn, marksIn}
-use Rattle.theory_promises.specs.Demand3.{allocatedBlocks, blocksToMark, thenUnit}
+use Rattle.theory_promises.specs.Demand3.{allocatedBlocks, blocksUpToMark, thenUnit}
 
 pub record Cycle (h : Heap) (cs : List Call) (xs ys zs : List Deed) : Type 0 where
   pub deeds : sessionDeeds cs h ≡ xs ++ (aUnit ∷ (thenUnit ys ++ zs))
@@ -29,7 +29,7 @@ pub record Counts (h : Heap) (xs ys : List Deed) (u a m n : ℕ) : Type 0 where
   pub units : unitsIn (aUnit ∷ thenUnit ys) ≡ u
   pub allocated : allocatedBlocks (after xs h) ≡ a
   pub marked : marksIn (thenUnit ys) (deed aUnit (after xs h)) ≡ m
-  pub high : blocksToMark (after (thenUnit ys) (deed aUnit (after xs h))) ≡ n
+  pub high : blocksUpToMark (after (thenUnit ys) (deed aUnit (after xs h))) ≡ n
   pub exact : u ≡ 2 + m + n
   pub most : u ≤ a + n + 2
 
@@ -59,7 +59,7 @@ small = formatted 3 1
 pub record Rising : Type 0 where
   pub cycle : Cycle small twoTaken [] taking []
   pub counts : Counts small [] taking 4 0 0 2
-  pub lower : allocatedBlocks small + blocksToMark small + 2 < unitsIn (aUnit ∷ thenUnit taking)
+  pub lower : allocatedBlocks small + blocksUpToMark small + 2 < unitsIn (aUnit ∷ thenUnit taking)
 
 abbrev pub unused : Heap
 unused = formatted 3 2
@@ -69,4 +69,4 @@ pub record Skipped : Type 0 where
   pub cycle : Cycle unused (Allocate 0 0 ∷ []) [] [] (anAct (aTake 0 0) ∷ [])
   pub counts : Counts unused [] [] 2 0 0 0
   pub white : colourOf (session (Allocate 0 0 ∷ []) unused) 2 ≡ White
-  pub higher : blocksToMark (session (Allocate 0 0 ∷ []) unused) ≡ 1
+  pub higher : blocksUpToMark (session (Allocate 0 0 ∷ []) unused) ≡ 1

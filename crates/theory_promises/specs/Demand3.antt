@@ -1,6 +1,6 @@
 -- Demand 3, as statements about the calls.
 --     allocatedBlocks h    how many blocks are allocated
---     blocksToMark h       H: "how many blocks lie at or below the mark"
+--     blocksUpToMark h       H: "how many blocks lie at or below the mark"
 --     thenUnit ys          the deeds ys and a unit after them
 --     CycleShort           "a cycle that starts with A allocated blocks takes at most" A + H + 2 "units", and exactly 2 + marked + H
 --     cycles m u           N: "(2M + 2)/U rounded up"
@@ -39,8 +39,8 @@ use Rattle.theory_promises.specs.Sessions.{NoReset, sessionDeeds, Proper
 abbrev pub allocatedBlocks : Heap → ℕ
 allocatedBlocks h = countFrom (isAllocated (colouring h)) (h .regs .blocks) 2
 
-abbrev pub blocksToMark : Heap → ℕ
-blocksToMark h = countFrom (λ b. leb b (h .regs .mark)) (h .regs .blocks) 2
+abbrev pub blocksUpToMark : Heap → ℕ
+blocksUpToMark h = countFrom (λ b. leb b (h .regs .mark)) (h .regs .blocks) 2
 
 abbrev pub thenUnit : List Deed → List Deed
 thenUnit ys = ys ++ (aUnit ∷ [])
@@ -49,21 +49,21 @@ thenUnit ys = ys ++ (aUnit ∷ [])
 -- unit, after which the phase is idle. The deeds ys follow the unit that starts a cycle, after the deeds xs, and start none themselves: the
 -- cycle still runs, or has ended; its units are counted over all the calls that do them.
 pub record CycleShort : Type 0 where
-  -- "The count of allocated blocks is M less the free count"
+  -- the count of allocated blocks is M less the free count
   pub counted : (h : Heap) → WellFormed h → allocatedBlocks h + h .regs .count ≡ h .regs .blocks
   -- blocks are numbered from 2 on, so H is the mark less 1, and at most M
-  pub upTo : (h : Heap) → WellFormed h → blocksToMark h + 1 ≡ h .regs .mark
+  pub upTo : (h : Heap) → WellFormed h → blocksUpToMark h + 1 ≡ h .regs .mark
   -- at every moment, with the mark as it stands then: at the cycle's last unit this is the bound
   pub short : (h : Heap) → WellFormed h → (cs : List Call) → NoReset cs h → (xs ys zs : List Deed) → sessionDeeds cs h ≡ xs ++ (aUnit ∷ (ys ++ zs))
       → after xs h .regs .phase ≡ idle → NoBegin ys (deed aUnit (after xs h))
-      → unitsIn (aUnit ∷ ys) ≤ allocatedBlocks (after xs h) + blocksToMark (after ys (deed aUnit (after xs h))) + 2
+      → unitsIn (aUnit ∷ ys) ≤ allocatedBlocks (after xs h) + blocksUpToMark (after ys (deed aUnit (after xs h))) + 2
   -- the unit after the deeds ys is the cycle's last
   pub exact :
       (h : Heap) → WellFormed h → (cs : List Call) → NoReset cs h → (xs ys zs : List Deed) → sessionDeeds cs h ≡ xs ++ (aUnit ∷ (thenUnit ys ++ zs))
       → after xs h .regs .phase ≡ idle → NoBegin (thenUnit ys) (deed aUnit (after xs h))
       → after (thenUnit ys) (deed aUnit (after xs h)) .regs .phase ≡ idle
       → unitsIn (aUnit ∷ thenUnit ys)
-      ≡ 2 + marksIn (thenUnit ys) (deed aUnit (after xs h)) + blocksToMark (after (thenUnit ys) (deed aUnit (after xs h)))
+      ≡ 2 + marksIn (thenUnit ys) (deed aUnit (after xs h)) + blocksUpToMark (after (thenUnit ys) (deed aUnit (after xs h)))
 
 unfoldable pub cycles : ℕ → ℕ → ℕ
 cycles m u = roundedUp (2 * m + 2) u

@@ -8,6 +8,7 @@ pub mod Sessions
 pub mod Told
 pub mod Demand2
 pub mod Demand3
+pub mod Marks
 pub mod Sharper
 pub mod View
 pub mod Instances

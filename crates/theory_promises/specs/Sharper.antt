@@ -8,7 +8,7 @@
 --     MarkIsPeak           on a fresh heap the mark less 1 is exactly the most blocks that were ever allocated at once
 --     RestUntouched        where P blocks are enough no block above P + 1 is ever taken, and no allocation is refused: M doesn't matter
 -- Sessions, K and B are those of demand 3 (specs/Demand3.antt), and H is the number of blocks at or below the mark. With P blocks at or below the
--- mark a cycle has at most K + P + 2 units; demand 3 counts 2M + 2. So N' is smaller than N, and paces of 3 and 4, which demand 3's rule turns down
+-- mark a cycle has at most K + P + 2 units; demand 3 counts 2M + 2. So N' is at most N where K is at most M, and paces of 3 and 4, which demand 3's rule turns down
 -- for every M, are enough.
 -- Assumes nothing.
 use Prim.Native.Nat.{ℕ, _+_, _*_, max, _≤_}
@@ -26,7 +26,7 @@ use Rattle.theory_promises.specs.Reachable.{Reachable}
 use Rattle.theory_promises.specs.Deeds.{Deed, aUnit, deed, after}
 use Rattle.theory_promises.specs.Plans.{asks}
 use Rattle.theory_promises.specs.Sessions.{NoReset, sessionDeeds, Proper, NoBegin, unitsIn, marksIn}
-use Rattle.theory_promises.specs.Demand3.{allocatedBlocks, blocksToMark, Few, Premises, Asking}
+use Rattle.theory_promises.specs.Demand3.{allocatedBlocks, blocksUpToMark, Few, Premises, Asking}
 
 unfoldable pub shortCycles : ℕ → ℕ → ℕ → ℕ
 shortCycles k p u = roundedUp (k + p + 2) u
@@ -51,7 +51,7 @@ pub record CycleShorter : Type 0 where
       → marksIn ys (deed aUnit (after xs h)) ≤ k
   -- So it has at most K + H + 2 units: at every moment, with the mark as it stands then. At its last unit they are 2 + marked + H, by CycleShort.
   pub short : (k : ℕ) (h : Heap) (cs : List Call) (xs ys zs : List Deed) → ProperCycle h cs xs ys zs → Few k (after xs h)
-      → unitsIn (aUnit ∷ ys) ≤ k + blocksToMark (after ys (deed aUnit (after xs h))) + 2
+      → unitsIn (aUnit ∷ ys) ≤ k + blocksUpToMark (after ys (deed aUnit (after xs h))) + 2
 
 -- with B for n: no call of the session answers 7, nor would any further call that asks for at most B blocks
 pub record NoWant (R : ℕ → ℕ → ℕ → ℕ → Type 0) : Type 0 where
@@ -84,7 +84,7 @@ MarkIsPeak =
     → session cs (formatted m u) .regs .mark ≡ peak (sessionDeeds cs (formatted m u)) (formatted m u) + 1
 
 -- If K + 2N' + B - 1 ≤ P ≤ M with N' = (K + P + 2)/U rounded up, then under the premises no block above P + 1 is ever taken, and no allocation is
--- refused. A larger M costs address space and nothing else.
+-- refused. A larger M costs address space, and time only in the calls that go over all blocks.
 pub record RestUntouched : Type 0 where
   pub stays : (m u k n p : ℕ) (cs : List Call) → Premises m u k cs → Asking n cs (formatted m u) → k + 2 * shortCycles k p u + n ≤ p + 1
       → session cs (formatted m u) .regs .mark ≤ p + 1

@@ -1,4 +1,4 @@
--- Instances of the sharper demand 3: its premises are met where demand 3's rule can't be, and its bounds are met exactly.
+-- Instances of the sharper demand 3: its premises are met where demand 3's rule can't be, and a cycle's bound is met exactly.
 --     Slow                     what a pace of 3 or 4 has room for: nothing by demand 3's rule, and any K by the sharper one
 --     slow                     allocations at the root
 --     Unhurried                80 of them at a pace of 3, on 20 blocks of which 14 are enough: the mark stays below
@@ -14,7 +14,7 @@ use Rattle.machine.specs.Session.{Call, does, session}
 use Rattle.machine.specs.Session.Call.{Allocate, Work}
 use Rattle.theory_promises.specs.Deeds.{Deed, aUnit, deed, after}
 use Rattle.theory_promises.specs.Sessions.{sessionDeeds, unitsIn}
-use Rattle.theory_promises.specs.Demand3.{blocksToMark, thenUnit, cycles, Few, Premises, Asking}
+use Rattle.theory_promises.specs.Demand3.{blocksUpToMark, thenUnit, cycles, Few, Premises, Asking}
 use Rattle.theory_promises.specs.Sharper.{shortCycles, ProperCycle, peak}
 use Rattle.theory_promises.specs.Instances.{churn}
 use Rattle.theory_promises.specs.CycleInstances.{twoTaken, taking, both, large}
@@ -49,5 +49,5 @@ sofar = aUnit ∷ thenUnit taking
 pub record Met : Type 0 where
   pub cycle : ProperCycle large (twoTaken ++ Work 6 ∷ []) sofar (thenUnit both) []
   pub few : Few 2 (after sofar large)
-  pub short : unitsIn (aUnit ∷ thenUnit both) ≤ 2 + blocksToMark (after (thenUnit both) (deed aUnit (after sofar large))) + 2
-  pub exact : unitsIn (aUnit ∷ thenUnit both) ≡ 2 + blocksToMark (after (thenUnit both) (deed aUnit (after sofar large))) + 2
+  pub short : unitsIn (aUnit ∷ thenUnit both) ≤ 2 + blocksUpToMark (after (thenUnit both) (deed aUnit (after sofar large))) + 2
+  pub exact : unitsIn (aUnit ∷ thenUnit both) ≡ 2 + blocksUpToMark (after (thenUnit both) (deed aUnit (after sofar large))) + 2

@@ -17,7 +17,7 @@ use Rattle.theory_promises.specs.Reachable.{Reachable}
 pub record Told (h : Heap) : Type 0 where
   -- it is refused for no number, and changes nothing
   pub answers : (b : ℕ) → tellState b h ≡ done (stateNumber (stateOf h b)) h
-  -- "a number that is no block is outside the layout", and nothing else is
+  -- a number that is no block is outside the layout, and nothing else is
   pub outside : (b : ℕ) → (stateOf h b ≡ Outside) ↔ (Block (h .regs .blocks) b → ⊥)
   -- Read is refused by document 01's number for the state
   pub reads : (b w : ℕ) → Block (h .regs .blocks) b → w ≤ 7 → read b w h .answer .refusal ≡ refusalOf 5 (stateOf h b)

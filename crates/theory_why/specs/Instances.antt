@@ -36,7 +36,7 @@ crossed =
     session
     (Allocate 0 0 ∷ Allocate 2 0 ∷ Allocate 2 1 ∷ Allocate 3 7 ∷ StoreReference 4 0 5
     ∷ Allocate 2 7 ∷ StoreReference 3 0 6
-    ∷ Allocate 2 2 ∷ StoreReference 2 2 0 ∷ Work 4 ∷ [])
+    ∷ Allocate 2 2 ∷ StoreReference 2 2 0 ∷ Work 2 ∷ [])
     (formatted 8 1)
 
 -- a cycle begins; the root is marked, which greys 3, 4 and 6, and then 6 is; after that the root lets 3 and 6 go

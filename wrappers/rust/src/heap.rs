@@ -134,7 +134,8 @@ impl Heap {
     }
 
     /// The heap of an image: exactly the one that was saved. One that a version before 0.7.0 saved has no mark, and gets the highest
-    /// there can be. Refusal 10 where the bytes are not the image of a well-formed heap, or something comes after it. Panics where the library that is linked is of another version than this crate.
+    /// there can be. Refusal 10 where the bytes are not the image of a well-formed heap, or something comes after it. Panics where the
+    /// library that is linked is of another version than this crate.
     pub fn load(image: &[u8]) -> Result<Heap, Refused> {
         assert!(calls::fits_library(), "libdergamoyne.a is of another version than this crate");
         // Of a length that no image has nothing is lent: the call then refuses the image. Rounded down, the shorter form tells the
