@@ -122,15 +122,23 @@ static void all(uint32_t colour)
     r.free = r.count = 0;
 }
 
-/* Blocks 2, the root, and 3 are allocated and white, and the others are free again. */
+/* The first n blocks are allocated and white, block 2 is the root, and the other blocks are free again. */
+static void first(uint32_t u, uint32_t n)
+{
+    used(u);
+    for (uint32_t i = 0; i < n; i++) {
+        words[8 * i] = 0;
+        colours[i] = WHITE;
+    }
+    r.free = n + 2;
+    r.count = m - n;
+    r.root = 2;
+}
+
+/* Blocks 2, the root, and 3 are allocated and white. */
 static void two(void)
 {
-    used(1);
-    words[0] = words[8] = 0;
-    colours[0] = colours[1] = WHITE;
-    r.free = 4;
-    r.count = m - 2;
-    r.root = 2;
+    first(1, 2);
 }
 
 /* The same while marking: the root is black. */
@@ -223,6 +231,24 @@ static void turning(uint32_t n)
     work(n);
 }
 
+/* Work of a single unit, which starts a cycle, with a root. */
+static void starting_alone(void)
+{
+    two();
+    audit();
+    measure("starting-alone", 0);
+    work(1);
+}
+
+/* Work of a single unit, which finds the grey list empty. */
+static void turning_alone(void)
+{
+    two_marking();
+    audit();
+    measure("turning-alone", 0);
+    work(1);
+}
+
 /* Each kind of unit, n of them. */
 static void unit_measures(uint32_t n)
 {
@@ -230,6 +256,8 @@ static void unit_measures(uint32_t n)
     marking("marking-1", n, 1, BLACK);
     marking("marking-2", n, 2, BLACK);
     marking("marking-8", n, 8, BLACK);
+    marking("marking-grey-1", n, 1, LAST);
+    marking("marking-grey-2", n, 2, LAST);
     marking("marking-grey-8", n, 8, LAST);
     marking_white("marking-white-1", n, 1);
     marking_white("marking-white-2", n, 2);
@@ -284,15 +312,31 @@ static void until_cycle(uint32_t cycle)
 }
 
 /* One whole cycle, after two. It sweeps all blocks. */
-static void steady(const char *of, uint32_t u)
+static void whole_cycle(const char *of)
 {
-    used(u);
-    allocate(0, 0);
     until_cycle(3);
     measure(of, 0);
     until_cycle(4);
     prepare();
     audit();
+}
+
+/* Eight blocks live: the root and the seven that it names. */
+static void steady(const char *of, uint32_t u)
+{
+    used(u);
+    allocate(0, 0);
+    whole_cycle(of);
+}
+
+/* A quarter of the blocks live in a list besides, each naming the next in word 0. The root is the first of them. */
+static void steady_list(const char *of, uint32_t u)
+{
+    first(u, m / 4);
+    for (uint32_t b = 2; b <= m / 4; b++)
+        refer(b, 0, b + 1);
+    audit();
+    whole_cycle(of);
 }
 
 /* Ten units that each mark a block with eight references, so many of them to white blocks and the others to a grey one. */
@@ -411,6 +455,23 @@ static void why_list(void)
     why("why-list", m + 1, WHY_REACHABLE);
 }
 
+/* Of four blocks in turn the first lives in a list, each naming the next in word 0, the second is garbage that holds eight numbers,
+   and the other two are free. */
+static void mixed(void)
+{
+    all(WHITE);
+    r.root = 2;
+    for (uint32_t b = m + 1; b >= 2; b--)
+        if (b % 4 == 2) {
+            refer(b, 0, b + 4 > m + 1 ? 0 : b + 4);
+        } else if (b % 4 != 3) {
+            words[8 * (b - 2)] = r.free;
+            colours[b - 2] = FREE;
+            r.free = b;
+            r.count++;
+        }
+}
+
 static void linear_measures(void)
 {
     why_list();
@@ -428,6 +489,9 @@ static void linear_measures(void)
     audit();
     image_measures("save-8", "load-8");
     why("why-8", m + 1, WHY_REACHABLE);
+    mixed();
+    measure("audit-mixed", 0);
+    audit();
 }
 
 static void calls(uint32_t size)
@@ -439,10 +503,14 @@ static void calls(uint32_t size)
     starting(2);
     turning(1);
     turning(2);
+    starting_alone();
+    turning_alone();
     idle_measures();
     barrier_measures();
     steady("allocate-4", 4);
     steady("allocate-10", 10);
+    steady_list("allocate-list-4", 4);
+    steady_list("allocate-list-10", 10);
     for (uint32_t whites = 1; whites <= 8; whites++)
         dear(whites);
     object_measures();
