@@ -1,4 +1,6 @@
 // The audit: 1 for a well-formed heap, else 0. Its cost is linear in M, and it keeps no memory of its own.
+#![tactic(auto)]
+
 ghost use Rattle.std.specs.Prelude.{◌≡◌, List, true, ℕ, ◌≤◌, length, ◌↔◌};
 ghost use Rattle.machine.specs.WellFormed.{Block, WellFormed};
 ghost use Rattle.machine.specs.Heap.{heap, colouring};

@@ -1,5 +1,7 @@
 // Allocate chain: n times the units of an allocation first, then the tests of the holder and of the first n of the free list, then
 // the taking, which nothing can stop any more.
+#![tactic(auto)]
+
 ghost use Rattle.std.specs.Prelude.{◌≡◌, ◌≢◌, ◌≤◌};
 ghost use Rattle.machine.specs.Tests.{◌▷◌};
 ghost use Rattle.machine.specs.WellFormed.{Block};

@@ -1,5 +1,7 @@
 // Export: the rows of a list on the heap, written to a lent buffer. It is complete, or it says that it is not, and why.
 // A row is a block's eight words; the list goes on by the reference in the link word, and 0 ends it.
+#![tactic(auto)]
+
 ghost use Rattle.std.specs.Prelude.{◌≡◌, ◌+◌, ◌*◌, ◌≤◌, length};
 ghost use Rattle.machine.specs.Block.{base, eight_words};
 ghost use Rattle.machine.specs.Heap.{heap};

@@ -1,5 +1,7 @@
 // Export of a list whose rows are objects, to a lent buffer. It is complete, or it says that it is not, and why.
 // A row is an object's first fields; the list goes on by the reference in one of them, and 0 ends it.
+#![tactic(auto)]
+
 ghost use Rattle.std.specs.Prelude.{◌≡◌, true, not, ◌-◌, ◌/◌};
 ghost use Rattle.machine.specs.WellFormed.{Block};
 ghost use Rattle.machine.specs.Heap.{heap};
@@ -14,7 +16,7 @@ use machine::Regs;
 use part_rows::{ExportAnswer, Exported, Followed, Reason};
 
 // What a walk found: the refusal number, or 0 and the block.
-#[derive(Drop)]
+#[derive(Clone, Copy)]
 struct Found {
     refusal: u32,
     block: u32,

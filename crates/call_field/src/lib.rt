@@ -1,5 +1,7 @@
 // The fields of an object longer than a block: Read field, Store field number and Store field reference.
 // Field k is word k mod 7 of the block that k / 7 links lead to.
+#![tactic(auto)]
+
 ghost use Rattle.std.specs.Prelude.{◌≡◌};
 ghost use Rattle.machine.specs.Heap.{heap};
 ghost use Rattle.machine.specs.Answers.{given};

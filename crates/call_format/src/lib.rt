@@ -1,4 +1,6 @@
 // Format: every block free, in rising order, and fresh registers.
+#![tactic(auto)]
+
 ghost use Rattle.std.specs.Prelude.{◌≡◌, ◌*◌, ◌≤◌, length};
 ghost use Rattle.machine.specs.Registers.{fresh_regs};
 ghost use Rattle.machine.specs.Heap.{heap};

@@ -1,5 +1,7 @@
 // Load: the heap of an image, read into lent buffers. The image is audited as it lies, before anything is written; of the old heap only
 // the buffers' lengths are looked at. An image with nine registers is read with the mark at M + 1. Its cost is linear in M.
+#![tactic(auto)]
+
 ghost use Rattle.std.specs.Prelude.{◌≡◌, true, ◌*◌, length};
 ghost use Rattle.machine.specs.Heap.{heap};
 ghost use Rattle.machine.specs.Answers.{given};

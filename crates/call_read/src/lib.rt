@@ -1,4 +1,6 @@
 // Read and Look: what the running program sees of a block. Neither writes anything.
+#![tactic(auto)]
+
 ghost use Rattle.std.specs.Prelude.{◌≡◌};
 ghost use Rattle.machine.specs.Heap.{heap};
 ghost use Rattle.machine.specs.Read.{read, look, look_at, moved};

@@ -1,5 +1,7 @@
 // Save: the image of a heap, written to a lent output. The heap is audited first, and stays as it is.
 // Its cost is linear in M; what it writes to is the output alone, and there only the image.
+#![tactic(auto)]
+
 ghost use Rattle.std.specs.Prelude.{◌≡◌, ◌++◌, ◌≤◌, length, drop};
 ghost use Rattle.machine.specs.Heap.{heap};
 ghost use Rattle.machine.specs.Image.{numbers, registers_of, register_count, encode};

@@ -1,5 +1,7 @@
 // How large a heap has to be: N, and the premise under which no allocation is refused for want of room. The same for the sharper rule, by which a
 // smaller heap is enough.
+#![tactic(auto)]
+
 ghost use Rattle.std.specs.Prelude.{◌≡◌, eqb};
 ghost use Rattle.machine.specs.Tests.{if◌then◌else◌};
 ghost use Rattle.theory_promises.specs.Demand3.{cycles};

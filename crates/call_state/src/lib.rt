@@ -1,4 +1,6 @@
 // State, of document 02's request L5: what a number is, told to the host.
+#![tactic(auto)]
+
 ghost use Rattle.std.specs.Prelude.{◌≡◌};
 ghost use Rattle.machine.specs.Heap.{heap};
 ghost use Rattle.machine.specs.Tell.{state_number, tell_state};

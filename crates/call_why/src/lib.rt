@@ -1,6 +1,8 @@
 // Why: the reason why a block is still here, and for a reachable one a shortest path to it from the root.
 // The heap is audited first, and stays as it is. Its cost is linear in M and in the lent buffers' lengths; what
 // it writes to is these three buffers alone.
+#![tactic(auto)]
+
 ghost use Rattle.std.specs.Prelude.{◌≡◌, ◌≢◌, true, ◌&&◌, List, ℕ, ◌*◌, ◌≤◌, leb, length};
 ghost use Rattle.machine.specs.declared.State.TheVariants.{Outside};
 ghost use Rattle.machine.specs.WellFormed.{Block};

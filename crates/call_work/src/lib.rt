@@ -1,4 +1,6 @@
 // Work: units of the collector, as many as the running program asks for.
+#![tactic(auto)]
+
 ghost use Rattle.std.specs.Prelude.{◌≡◌};
 ghost use Rattle.machine.specs.Heap.{heap};
 ghost use Rattle.machine.specs.Answers.{given};

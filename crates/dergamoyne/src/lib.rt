@@ -1,5 +1,7 @@
 // The outer calls, for a host in C. Ten write to the heap: the host lends its one register record, and the call changes it in
 // place, over a core that takes the record by value and gives it back. Nine only look, and take the record by value.
+#![tactic(auto)]
+
 ghost use Rattle.std.specs.Prelude.{◌≡◌, ◌↔◌};
 ghost use Rattle.machine.specs.WellFormed.{WellFormed};
 ghost use Rattle.machine.specs.Heap.{heap};
@@ -26,7 +28,7 @@ use part_rows::ExportAnswer;
 // What Look answers a host: the refusal of Read of word 0, or 0, and the index of the block's first word in the word buffer. On a
 // refusal that is 4,294,967,295, past the end of any word buffer, so that a read there faults and doesn't find another block.
 #[repr(C)]
-#[derive(Drop)]
+#[derive(Clone, Copy)]
 pub struct LookAnswer {
     pub refusal: u32,
     pub at: u32,

@@ -1,11 +1,13 @@
 // The cases of document 01 at the limits: each line is what a call answers, or a number of cases 12 and 13. The calls on the greatest
 // heap stand in a table, and are done as heaprun does them.
+#![tactic(auto)]
+
 use machine::{Answer, Regs};
 use text_commands::Command;
 use text_output::Output;
 
 // The registers after a call, and what waits to be written.
-#[derive(Drop)]
+#[derive(Clone, Copy)]
 struct Done {
     regs: Regs,
     output: Output,

@@ -1,5 +1,7 @@
 // The declared types of the block heap: what the calls take, keep and answer.
 // The machine itself, document 01 as definitions, is in specs/.
+#![tactic(auto)]
+
 ghost use Rattle.std.specs.Prelude.{◌≡◌};
 ghost use Rattle.machine.specs.Registers.{with_grey};
 
@@ -92,7 +94,7 @@ pub const WHY_KEPT: u32 = 4;
 
 // The register record, in document 01's order, then the mark: the highest block handed out since format.
 #[repr(C)]
-#[derive(Drop)]
+#[derive(Clone, Copy)]
 pub struct Regs {
     pub blocks: u32,
     pub pace: u32,
@@ -126,7 +128,7 @@ pub fn with_grey(r: Regs, g: u32) -> Regs
 
 // What a call answers: a refusal number or 0, a value (0 if none), and the units done.
 #[repr(C)]
-#[derive(Drop)]
+#[derive(Clone, Copy)]
 pub struct Answer {
     pub refusal: u32,
     pub value: u32,
@@ -135,7 +137,7 @@ pub struct Answer {
 
 // What Read answers: its `reference` is 1 for a word that is a reference, else 0.
 #[repr(C)]
-#[derive(Drop)]
+#[derive(Clone, Copy)]
 pub struct ReadAnswer {
     pub refusal: u32,
     pub value: u32,
@@ -144,14 +146,14 @@ pub struct ReadAnswer {
 }
 
 // What a call gives back: the registers afterwards and its answer.
-#[derive(Drop)]
+#[derive(Clone, Copy)]
 pub struct Outcome {
     pub regs: Regs,
     pub answer: Answer,
 }
 
 // What a colour word means.
-#[derive(Drop)]
+#[derive(Clone, Copy)]
 pub enum Colour {
     White,
     Grey,
@@ -162,7 +164,7 @@ pub enum Colour {
 
 // What a number is to a call: a block that is allocated and not doomed, by its colour; a doomed block; a free one; or outside the layout,
 // as a number is that is no block.
-#[derive(Drop)]
+#[derive(Clone, Copy)]
 pub enum State {
     LiveWhite,
     Doomed,
@@ -174,7 +176,7 @@ pub enum State {
 
 // Why a block is still here, of document 02's request L6: it is free; it is doomed; it is reachable, by a path of so many pairs; or it
 // is out of reach and not doomed, with its colour.
-#[derive(Drop)]
+#[derive(Clone, Copy)]
 pub enum Reason {
     Free,
     Doomed,
@@ -183,13 +185,13 @@ pub enum Reason {
 }
 
 // The record that holds the reason.
-#[derive(Drop)]
+#[derive(Clone, Copy)]
 pub struct Why {
     pub reason: Reason,
 }
 
 // What Why answers: refused, by this number, or the reason.
-#[derive(Drop)]
+#[derive(Clone, Copy)]
 pub enum WhyAnswer {
     Refused(u32),
     Told(Why),
@@ -198,7 +200,7 @@ pub enum WhyAnswer {
 // The same in numbers: reason is 0 where refusal isn't, else 1 for a free block, 2 for a doomed one, 3 for a reachable one, whose path
 // has so many pairs, 4 for one that is kept, whose state is told as State tells it.
 #[repr(C)]
-#[derive(Drop)]
+#[derive(Clone, Copy)]
 pub struct WhyNumbers {
     pub refusal: u32,
     pub reason: u32,
@@ -207,7 +209,7 @@ pub struct WhyNumbers {
 }
 
 // The step that a unit takes.
-#[derive(Drop)]
+#[derive(Clone, Copy)]
 pub enum Step {
     Begin,
     Mark,
@@ -220,7 +222,7 @@ pub enum Step {
 
 // What marking sees of a reference before it writes: it is 0 or a block that isn't white; a white block, which is to be greyed; or
 // neither 0 nor an allocated block.
-#[derive(Drop)]
+#[derive(Clone, Copy)]
 pub enum Seen {
     Settled,
     ToGrey,
@@ -228,14 +230,14 @@ pub enum Seen {
 }
 
 // What a unit answers: the registers after it, or that it met damage and did nothing.
-#[derive(Drop)]
+#[derive(Clone, Copy)]
 pub enum Progress {
     Done(Regs),
     Damaged,
 }
 
 // What a run of units answers: the registers after it, the units finished, and 8 where damage ended it, else 0.
-#[derive(Drop)]
+#[derive(Clone, Copy)]
 pub struct Ran {
     pub regs: Regs,
     pub units: u32,

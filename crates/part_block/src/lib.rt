@@ -1,4 +1,6 @@
 // The audit's tests of a block's own values, wherever the block lies: in a heap's buffers or in an image.
+#![tactic(auto)]
+
 ghost use Rattle.std.specs.Prelude.{◌≡◌, Bool, false, ◌&&◌, List, ℕ, length};
 ghost use Rattle.machine.specs.declared.Regs.{Regs};
 ghost use Rattle.machine.specs.declared.State.TheVariants.{Grey, Black, Free};
@@ -11,7 +13,7 @@ ghost use Rattle.part_block.specs.Asked.{answered};
 use machine::State;
 
 // What is left to ask of a block: nothing, as it passes or fails; or what its references name, strictly or not.
-#[derive(Drop)]
+#[derive(Clone, Copy)]
 pub enum Asked {
     Passes,
     Fails,

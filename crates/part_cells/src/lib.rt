@@ -1,4 +1,6 @@
 // A block's words and its reference byte. The reference bytes are written by set_bit, clear_bit, clear_byte and fresh alone.
+#![tactic(auto)]
+
 ghost use Rattle.std.specs.Prelude.{◌≡◌, List, ℕ, ◌*◌, ◌<◌, ◌≤◌, length, replicate};
 ghost use Rattle.machine.specs.WellFormed.{Block};
 ghost use Rattle.machine.specs.Heap.{heap};

@@ -1,6 +1,8 @@
 // The tests before a call does anything: refusals 1 to 4 by numbers alone, then 8, 5 and 6 by a block's state.
 // Each answers the refusal number, or 0. Then how a call gives back its answer: answered, and for a call that did
 // no units refused and done.
+#![tactic(auto)]
+
 ghost use Rattle.std.specs.Prelude.{◌≡◌, ◌≢◌, true, ◌&&◌, ◌||◌, List, ℕ, ◌≤◌, leb, eqb, length};
 ghost use Rattle.machine.specs.WellFormed.{Block};
 ghost use Rattle.machine.specs.Block.{is_block};

@@ -1,5 +1,7 @@
 // The colour buffer: what a colour word means, and the grey list. Of the calls' code only
 // this crate reads or writes a colour word; part_step::step is told one and knows its values.
+#![tactic(auto)]
+
 pub mod layout; // layout.rt: what the audit asks of the colours and of the grey list
 
 ghost use Rattle.std.specs.Prelude.{◌≡◌, ◌≢◌, ◌+◌, ◌%◌, ◌≤◌, length, ℕ};

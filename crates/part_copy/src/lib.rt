@@ -1,4 +1,6 @@
 // The fields of an object copied to a buffer: seven words of each block, and as many of the last as are left. Nothing is tested.
+#![tactic(auto)]
+
 ghost use Rattle.std.specs.Prelude.{◌≡◌, ◌++◌, ◌+◌, ◌-◌, ◌*◌, ◌/◌, ◌≤◌, ◌<◌, length, take, drop};
 ghost use Rattle.machine.specs.Block.{base, word_of};
 ghost use Rattle.machine.specs.Chain.{link};

@@ -1,4 +1,6 @@
 // The walk along an object's blocks, to the block that has a field: how far it comes, and its first refusal.
+#![tactic(auto)]
+
 ghost use Rattle.std.specs.Prelude.{◌≡◌, ℕ, ◌≤◌};
 ghost use Rattle.machine.specs.Tests.{◌▷◌};
 ghost use Rattle.machine.specs.WellFormed.{Block};
@@ -11,7 +13,7 @@ ghost use Rattle.machine.specs.Field.{field_place, link_refusal, walk_refusal};
 use machine::Regs;
 
 // How far a walk came: the block where it stands, and the links that are left to follow.
-#[derive(Drop)]
+#[derive(Clone, Copy)]
 pub struct Walked {
     pub block: u32,
     pub left: u32,

@@ -1,4 +1,6 @@
 // The audit's walk of the free list: it has exactly the free blocks, and free count of them.
+#![tactic(auto)]
+
 ghost use Rattle.std.specs.Prelude.{◌≡◌, ℕ, ◌≤◌, ◌*◌, length};
 ghost use Rattle.machine.specs.Block.{word_of};
 ghost use Rattle.machine.specs.Lists.{count_from, walk};

@@ -1,4 +1,6 @@
 // What an image is made of: numbers as four bytes, the lowest first, and sections of numbers and of single bytes.
+#![tactic(auto)]
+
 pub mod frame; // frame.rt: where the sections lie, the test of their counts, and the registers
 
 ghost use Rattle.std.specs.Prelude.{◌≡◌, ◌+◌, ◌*◌, ◌^◌, ◌≤◌, ◌<◌, length, take, drop};

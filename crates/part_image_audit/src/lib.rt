@@ -1,5 +1,7 @@
 // The audit of an image, as it lies: whether it is that of a well-formed heap. The tests are those of the heap's audit; what stands
 // here is where the block that is tested lies, in the sections behind the registers. Eight words of one block are all that is copied.
+#![tactic(auto)]
+
 ghost use Rattle.std.specs.Prelude.{◌≡◌, true, List, ℕ, length};
 ghost use Rattle.machine.specs.WellFormed.{Block};
 ghost use Rattle.machine.specs.Block.{references};

@@ -1,5 +1,7 @@
 // The audit's look at an image, as it lies: a block's colour, the grey list, the free list. What is looked at are the sections behind its
 // registers. What a colour word means is told by part_colours; the tests are those of the heap's audit.
+#![tactic(auto)]
+
 ghost use Rattle.std.specs.Prelude.{◌≡◌, ℕ};
 ghost use Rattle.machine.specs.WellFormed.{Block};
 ghost use Rattle.machine.specs.Block.{word_of};

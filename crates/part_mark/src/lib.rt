@@ -1,4 +1,6 @@
 // A unit that marks a block: what the block names is looked over first, then it is made black and what is white is greyed.
+#![tactic(auto)]
+
 ghost use Rattle.std.specs.Prelude.{◌≡◌, ◌≢◌, ℕ, ◌≤◌, ◌<◌, length};
 ghost use Rattle.machine.specs.declared.Step.TheVariants.{Mark};
 ghost use Rattle.machine.specs.Registers.{marking};
@@ -17,7 +19,7 @@ use part_step::{End, Stretch};
 
 // What the first pass over a block's references answers: the byte of the words that name white blocks, or that a reference is neither 0
 // nor an allocated block.
-#[derive(Drop)]
+#[derive(Clone, Copy)]
 pub enum Looked {
     Whites(u32),
     Damaged,

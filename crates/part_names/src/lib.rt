@@ -1,4 +1,6 @@
 // The audit's test of references: what a word that holds a reference, and the root, may name.
+#![tactic(auto)]
+
 ghost use Rattle.std.specs.Prelude.{◌≡◌, ◌≤◌, length};
 ghost use Rattle.machine.specs.Block.{references};
 ghost use Rattle.machine.specs.Colouring.{coloured, CellsFit};

@@ -1,4 +1,6 @@
 // The path to a block, read off a search: from the block back to the root, by how each block was come to.
+#![tactic(auto)]
+
 ghost use Rattle.std.specs.Prelude.{◌≡◌, ◌++◌, ◌*◌, ◌≤◌, length, drop};
 ghost use Rattle.machine.specs.WellFormed.{Block};
 ghost use Rattle.machine.specs.Search.{came_to, path_to, path_numbers};

@@ -1,4 +1,6 @@
 // What a store writes: a word and its reference bit, and before it the barrier.
+#![tactic(auto)]
+
 ghost use Rattle.std.specs.Prelude.{◌≡◌, ◌≢◌, List, ℕ, ◌*◌, ◌≤◌, length};
 ghost use Rattle.machine.specs.WellFormed.{Block};
 ghost use Rattle.machine.specs.Colouring.{CellsFit};

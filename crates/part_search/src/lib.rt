@@ -1,5 +1,7 @@
 // The search from the root, breadth first, in two lent buffers of M numbers each: `queue` gets the blocks found, in the order found,
 // and `came` how each block was come to. Each block is visited once, and each of its references looked at once.
+#![tactic(auto)]
+
 ghost use Rattle.std.specs.Prelude.{◌≡◌, ◌*◌, ◌≤◌, ◌<◌, length, replicate};
 ghost use Rattle.machine.specs.WellFormed.{Block};
 ghost use Rattle.machine.specs.Search.{named_in, meet, visit, begun, search};

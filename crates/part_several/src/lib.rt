@@ -1,5 +1,7 @@
 // Before several blocks are taken at once: the tests of the holder and of the first n of the free list. All of them stand before the
 // first take. How the blocks are taken and what is filled in is the call's own.
+#![tactic(auto)]
+
 ghost use Rattle.std.specs.Prelude.{◌≡◌, ◌≢◌, List, ℕ, ◌≤◌, ◌*◌, length};
 ghost use Rattle.machine.specs.WellFormed.{Block};
 ghost use Rattle.machine.specs.Colouring.{coloured, CellsFit};

@@ -1,5 +1,7 @@
 // What a number is to a call. Phase and position are looked at here alone: for the state of a block, and beside it for the two
 // questions that are no states, whether a block may be black and what colour a new one gets.
+#![tactic(auto)]
+
 ghost use Rattle.std.specs.Prelude.{◌≡◌, ◌≤◌, eqb};
 ghost use Rattle.machine.specs.declared.Regs.{Regs};
 ghost use Rattle.machine.specs.Tests.{if◌then◌else◌};

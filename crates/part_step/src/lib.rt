@@ -1,19 +1,21 @@
 // The step that a unit takes, and what units of one phase in a row answer.
 // A unit tests everything it meets before it writes.
+#![tactic(auto)]
+
 ghost use Rattle.std.specs.Prelude.{◌≡◌, ◌≤◌};
 ghost use Rattle.machine.specs.OneUnit.{step};
 
 use machine::{Regs, Step};
 
 // How units in a row ended: all of them were done, or one met damage.
-#[derive(Drop)]
+#[derive(Clone, Copy)]
 pub enum End {
     Finished,
     Damaged,
 }
 
 // What units in a row answer: the registers after them, how many were finished, and how they ended.
-#[derive(Drop)]
+#[derive(Clone, Copy)]
 pub struct Stretch {
     pub regs: Regs,
     pub units: u32,

@@ -1,5 +1,7 @@
 // A unit that sweeps a block: by its colour the block is freed, whitened or passed, and the position goes on by one. In a row of such
 // units the sweep's end is met once, behind the last of them.
+#![tactic(auto)]
+
 ghost use Rattle.std.specs.Prelude.{◌≡◌, List, ℕ, ◌+◌, ◌-◌, ◌≤◌, ◌<◌, ltb};
 ghost use Rattle.machine.specs.declared.Step.TheVariants.{Reclaim};
 ghost use Rattle.machine.specs.Tests.{if◌then◌else◌};

@@ -1,4 +1,6 @@
 // Taking a block: the tests of the holder and of the free list, then the first free block is taken, coloured and held.
+#![tactic(auto)]
+
 ghost use Rattle.std.specs.Prelude.{◌≡◌, ◌≢◌, List, ℕ, ◌≤◌, ◌*◌, max, length};
 ghost use Rattle.machine.specs.WellFormed.{Block};
 ghost use Rattle.machine.specs.Colouring.{CellsFit};

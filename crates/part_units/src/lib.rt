@@ -1,6 +1,8 @@
 // The collector: n units in a row. Units of one phase are done in a loop of that phase, which keeps what changes in machine
 // registers; `run` goes from loop to loop. Here are the units that begin a cycle and that end marking, which come alone, and how many
 // units an allocation has to pay.
+#![tactic(auto)]
+
 ghost use Rattle.std.specs.Prelude.{◌≡◌, ℕ, ◌≤◌, ◌≢◌, List, length};
 ghost use Rattle.machine.specs.Registers.{idle, marking};
 ghost use Rattle.machine.specs.Colouring.{coloured, CellsFit};

@@ -5,7 +5,7 @@ use part_rows::Exported;
 use text_commands::Command;
 
 // What the export answered, and the night after it.
-#[derive(Drop)]
+#[derive(Clone, Copy)]
 pub(crate) struct Tried {
     pub(crate) night: Night,
     pub(crate) found: Exported,

@@ -1,5 +1,7 @@
 // A night's list: 7,000 rows of 14 fields are stored on a heap of 16,384 blocks, two blocks each, while two objects of garbage are made
 // after each row, and the list is exported. Then it is damaged, a way at a time, and each export says that it is not complete, and why.
+#![tactic(auto)]
+
 mod damage;
 mod night;
 mod printing;
@@ -10,7 +12,7 @@ use night::Night;
 use part_rows::Exported;
 
 // A night of which something was said, and whether all of that could be written.
-#[derive(Drop)]
+#[derive(Clone, Copy)]
 struct Said {
     night: Night,
     whole: bool,

@@ -6,7 +6,7 @@ use text_commands::Command;
 
 // The list while it grows: the registers, its first and its last row, row 6,144 with its second block, the row following it, what the
 // last call gave, and how many calls were refused.
-#[derive(Drop)]
+#[derive(Clone, Copy)]
 pub(crate) struct Night {
     pub(crate) regs: Regs,
     pub(crate) first: u32,

@@ -1,4 +1,6 @@
 // A line of text: what it asks for, and how what a call gives is said. What a line asks for is in specs/Command.antt.
+#![tactic(auto)]
+
 ghost use Rattle.std.specs.Prelude.{◌≡◌, List, [], ◌∷◌, ◌++◌, ℕ, ◌<◌, length, get_or, drop};
 ghost use Rattle.machine.specs.Heap.{heap};
 ghost use Rattle.machine.specs.Answers.{Given, ReadGiven};
@@ -10,7 +12,7 @@ use machine::{Answer, Outcome, ReadAnswer, Regs};
 use text_numbers::{Cursor, Number};
 
 // What a line asks for.
-#[derive(Drop)]
+#[derive(Clone, Copy)]
 pub enum Command {
     Format(u32, u32),
     Read(u32, u32),
@@ -24,7 +26,7 @@ pub enum Command {
 }
 
 // The numbers of a line: how many, 4 meaning more than 3, and the first three, 0 where there are fewer.
-#[derive(Drop)]
+#[derive(Clone, Copy)]
 pub struct Numbers {
     pub count: u32,
     pub x: u32,
@@ -33,14 +35,14 @@ pub struct Numbers {
 }
 
 // What follows a line's letter: numbers, or something else.
-#[derive(Drop)]
+#[derive(Clone, Copy)]
 pub enum Arguments {
     Are(Numbers),
     Broken,
 }
 
 // What a line gives: the registers afterwards, and the three numbers to print.
-#[derive(Drop)]
+#[derive(Clone, Copy)]
 pub struct Said {
     pub regs: Regs,
     pub first: u32,

@@ -1,5 +1,7 @@
 // A line of text is done. What a line gives is in specs/Line.antt.
 // The lent buffers are those of the greatest heap that the caller wants; a line acts on the parts of them that M blocks take.
+#![tactic(auto)]
+
 ghost use Rattle.std.specs.Prelude.{◌≡◌, min};
 ghost use Rattle.machine.specs.Heap.{heap};
 ghost use Rattle.text_commands.specs.Saying.{said};

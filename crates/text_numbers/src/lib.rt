@@ -1,17 +1,19 @@
 // Numbers in a line of text: reading them. What a text is parted into, and which parts are numbers, is in specs/.
+#![tactic(auto)]
+
 ghost use Rattle.std.specs.Prelude.{◌≡◌, ◌&&◌, ◌≤◌, leb};
 ghost use Rattle.machine.specs.Tests.{if◌then◌else◌};
 ghost use Rattle.text_numbers.specs.declared.Number.TheVariants.{Whole, Broken};
 ghost use Rattle.text_numbers.specs.Numbers.{number_at};
 
 // A place in a text.
-#[derive(Drop)]
+#[derive(Clone, Copy)]
 pub struct Cursor {
     pub at: usize,
 }
 
 // What reading a number finds: a number and the place where its digits end, or something else.
-#[derive(Drop)]
+#[derive(Clone, Copy)]
 pub enum Number {
     Whole(u32, Cursor),
     Broken,

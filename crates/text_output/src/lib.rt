@@ -1,9 +1,11 @@
 // What waits to be written on standard output: bytes of a buffer. They are written out when the buffer has no room left, and at the end.
+#![tactic(auto)]
+
 ghost use Rattle.std.specs.Prelude.{◌≡◌, true, ◌++◌, ◌+◌, ◌≤◌, length, take};
 ghost use Rattle.text_output.specs.Output.{Roomy, Flushed, Spelt, Put, PutThree};
 
 // How many bytes of the buffer wait, and whether every write so far was done whole.
-#[derive(Drop)]
+#[derive(Clone, Copy)]
 pub struct Output {
     pub used: usize,
     pub well: bool,

@@ -6,7 +6,7 @@ use text_commands::{Command, Numbers};
 use text_numbers::{Cursor, Number};
 
 // What a case asks for: a letter and its arguments.
-#[derive(Drop)]
+#[derive(Clone, Copy)]
 pub(crate) struct Asked {
     pub(crate) letter: u8,
     pub(crate) x: u32,
@@ -15,7 +15,7 @@ pub(crate) struct Asked {
 }
 
 // What a case says before its buffers: the call, the registers, the lengths of the buffers, and the place where they begin.
-#[derive(Drop)]
+#[derive(Clone, Copy)]
 pub(crate) struct Start {
     pub(crate) asked: Asked,
     pub(crate) regs: Regs,
@@ -26,14 +26,14 @@ pub(crate) struct Start {
 }
 
 // What reading that finds: it, or a line that is no case.
-#[derive(Drop)]
+#[derive(Clone, Copy)]
 pub(crate) enum Head {
     Is(Start),
     Broken,
 }
 
 // What reading numbers finds: the place where the last one ends, or something else than numbers.
-#[derive(Drop)]
+#[derive(Clone, Copy)]
 enum Filled {
     To(usize),
     Broken,

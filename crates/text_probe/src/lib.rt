@@ -1,4 +1,6 @@
 // Cases from standard input: a call with its arguments, on a heap given whole, and the answer with the whole heap afterwards.
+#![tactic(auto)]
+
 mod cases; // cases.rt: reading a case
 mod heaps; // heaps.rt: the numbers of a heap, in their order
 

@@ -1,4 +1,6 @@
 // Lines from standard input, done one after another, with what they say on standard output. The memory taken is constant.
+#![tactic(auto)]
+
 ghost use Rattle.text_run.specs.Doing.{Turn};
 
 use machine::Regs;
@@ -6,7 +8,7 @@ use text_output::Output;
 use text_streams::Input;
 
 // What a line leaves behind: the registers, and what waits to be written.
-#[derive(Drop)]
+#[derive(Clone, Copy)]
 struct Done {
     regs: Regs,
     output: Output,

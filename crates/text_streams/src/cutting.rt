@@ -4,7 +4,7 @@ ghost use Rattle.std.specs.Prelude.{◌≡◌, [], ◌∷◌, ◌++◌, ◌≤�
 ghost use Rattle.text_streams.specs.Streams.{CutOut};
 
 // How a cut ended: the place to go on at, how many bytes of the line are kept, and whether the line ended there.
-#[derive(Drop)]
+#[derive(Clone, Copy)]
 pub(crate) struct Cut {
     pub(crate) at: usize,
     pub(crate) length: usize,

@@ -7,7 +7,7 @@ use text_output::Output;
 
 // Where reading stands: the place in the buffer to go on at, how many bytes of the buffer were read, how many bytes of a line are kept,
 // whether that line is whole, and whether more may come.
-#[derive(Drop)]
+#[derive(Clone, Copy)]
 pub struct Input {
     pub at: usize,
     pub upto: usize,
@@ -17,7 +17,7 @@ pub struct Input {
 }
 
 // Where reading stands, and what waits to be written.
-#[derive(Drop)]
+#[derive(Clone, Copy)]
 pub struct Step {
     pub input: Input,
     pub output: Output,

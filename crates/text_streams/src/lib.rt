@@ -1,4 +1,6 @@
 // Lines out of standard input, and a word on standard error where reading fails. What waits to be written is written before each read.
+#![tactic(auto)]
+
 mod cutting; // cutting.rt: lines out of what was read
 mod input; // input.rt: reading
 

@@ -1,1 +1,2 @@
 // No code: what the audit's answer means, as theory over the machine's definitions.
+#![tactic(auto)]

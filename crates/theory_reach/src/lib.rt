@@ -1,1 +1,2 @@
 // Reachability and counting over numbered blocks: theory alone. See specs/ and proofs/.
+#![tactic(auto)]

@@ -1,1 +1,2 @@
 // Theory alone: the reason why a block is still here is the true one. See specs/ and proofs/.
+#![tactic(auto)]

@@ -1,0 +1,40 @@
+-- `part_block::ask` meets its contract: the state decides. Assumes nothing.
+use mathlib.Core.Path.{refl, sym, ap}
+use mathlib.Core.Bool.{and-false}
+use Rattle.machine.specs.Audit.{mark_passes}
+use Rattle.machine.proofs.Passing.{white_as, doomed_as, outside_off, free_state, free_state_lem, mark_free, mark_state}
+use Rattle.part_block.specs.Asked.{answered}
+use Rattle.part_block.proofs.ask.Goals as goal
+
+pub returns-in-LiveWhite : goal.returns-in-LiveWhite
+unfolding answered
+returns-in-LiveWhite c =
+    let told = c.in-LiveWhite.is in
+    λ r k p q m i. mark_state r k _ _ _ told (c.ask_used.ensures r k _ m (free_state_lem r k _ i (ap free_state told))) (white_as r k _ _ _ _ refl)
+
+pub returns-in-Doomed : goal.returns-in-Doomed
+unfolding answered
+returns-in-Doomed c =
+    let told = c.in-Doomed.is in
+    λ r k p q m i. mark_state r k _ _ _ told (c.ask_used-in-Doomed.ensures r k _ m (free_state_lem r k _ i (ap free_state told))) (doomed_as r k _ _ _)
+
+pub returns-in-Grey : goal.returns-in-Grey
+returns-in-Grey c =
+    let told = c.in-Grey.is in
+    λ r k p q m i. mark_state r k _ _ _ told (c.ask_used-in-Grey.ensures r k _ m (free_state_lem r k _ i (ap free_state told))) (c.ask_grey.ensures r k _ _ _ p)
+
+pub returns-in-Black : goal.returns-in-Black
+returns-in-Black c =
+    let told = c.in-Black.is in
+    λ r k p q m i. mark_state r k _ _ _ told (c.ask_used-in-Black.ensures r k _ m (free_state_lem r k _ i (ap free_state told))) (c.ask_black.ensures r k _ _ p q)
+
+pub returns-in-Free : goal.returns-in-Free
+returns-in-Free c =
+    let told = c.in-Free.is in
+    λ r k p q m i. mark_state r k _ _ _ told (mark_free r k _ _ (free_state_lem r k _ i (ap free_state told))) (c.ask_free.ensures r k _)
+
+pub returns-in-Outside : goal.returns-in-Outside
+unfolding answered
+returns-in-Outside c =
+    let told = c.in-Outside.is in
+    λ r k p q m i. mark_state r k _ _ _ told (sym (and-false (mark_passes r k _))) (outside_off r k _ _ _)

@@ -1,0 +1,9 @@
+-- `part_checks::idle_legal` meets its contract. Assumes nothing.
+use borrow.Author.Tests.{eq-eqb, ne_eqb}
+use Rattle.part_checks.proofs.idle_legal.Goals as goal
+
+pub returns-then-g-eq-NO_GREY : goal.returns-then-g-eq-NO_GREY
+returns-then-g-eq-NO_GREY c = simp (eq-eqb _ _ c.if-g-eq-NO_GREY.true)
+
+pub returns-else-g-eq-NO_GREY : goal.returns-else-g-eq-NO_GREY
+returns-else-g-eq-NO_GREY c = simp (ne_eqb _ _ c.if-g-eq-NO_GREY.false)
