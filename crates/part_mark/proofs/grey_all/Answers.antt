@@ -43,7 +43,7 @@ loop-rest-preserved c =
     let l = lowest_less _ _ f n refl in
     (
       omega arith,
-      c.grey_white-g.auto.1.0 ∙ c.loop-rest.invariant.1,
+      c.grey_white-g.auto.colours ∙ c.loop-rest.invariant.1,
       named_on c.args.part.now _ _ f n refl _ c.loop-rest.invariant.2,
       λ m e. c.loop-rest.invariant.3 m e ∙ grey_on c.args.part.now _ _ f n refl _ (c.grey_white-g.ensures m (c.loop-rest.invariant.1 ∙ e)),
     )

@@ -13,12 +13,12 @@ returns-in_default c =
 
 pub grey_all-head-requires : goal.grey_all-head-requires
 grey_all-head-requires c =
-    let (f, n) = whites_ask (coloured c.args.r.blocks c.args.r.grey c.args.colours.now) _ _ _ _ (c.seen_all.ensures _) c.in-Whites.is (c.to_black-next.auto.1.0 ∙ c.requires.0.colours) in
+    let (f, n) = whites_ask (coloured c.args.r.blocks c.args.r.grey c.args.colours.now) _ _ _ _ (c.seen_all.ensures _) c.in-Whites.is (c.to_black-next.auto.colours ∙ c.requires.0.colours) in
     (f, omega arith, n)
 
 pub returns : goal.returns
 returns c =
     let (s, q) = looked_whites _ _ (c.seen_all.ensures c.args.r.grey) c.in-Whites.is in
-    let m = c.to_black-next.auto.1.0 ∙ c.requires.0.colours in
+    let m = c.to_black-next.auto.colours ∙ c.requires.0.colours in
     mark_done c.args.r c.args.words.now c.args.colours.now c.args.bytes.now _ (part_is _ _) s (c.to_black-next.ensures _)
     (c.grey_all-head.ensures _ m ∙ greyed_as (coloured c.args.r.blocks c.args.r.grey c.args.colours.now) _ _ _ _ q (omega arith) (c.to_black-next.ensures _)) c.with_grey.ensures

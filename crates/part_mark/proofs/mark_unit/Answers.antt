@@ -4,6 +4,7 @@ use Rattle.machine.specs.OneUnit.{act, ended}
 use Rattle.machine.proofs.Blocks.{block_as}
 use Rattle.machine.proofs.Running.{met_marking, unit_by, marks_block}
 use Rattle.part_step.proofs.Picking.{marks_or}
+use borrow.Enum.Refused.{opened}
 use Rattle.part_mark.proofs.mark_unit.Goals as goal
 
 pub word_of-word-requires : goal.word_of-word-requires
@@ -22,4 +23,4 @@ pub returns : goal.returns
 unfolding act ended
 returns c =
     let met = met_marking c.args.r c.args.words.now c.args.colours.now c.args.bytes.now c.requires.1 (marks_block _ c.requires.0 c.requires.2) c.word_of-word.ensures in
-    unit_by c.args.r c.args.words.now c.args.colours.now c.args.bytes.now met c.step.ensures (marks_or _ _ _ _ c.step.ensures c.requires.1 c.requires.2 c.in_default.in_default-own.keys2) refl
+    unit_by c.args.r c.args.words.now c.args.colours.now c.args.bytes.now met c.step.ensures (marks_or _ _ _ _ c.step.ensures c.requires.1 c.requires.2 (opened c.in_default.in_default-own.keys2)) refl

@@ -1,12 +1,12 @@
 -- `part_mark::seen_all` meets its contract: what is to come, with what was gathered, is what was to come. Assumes nothing.
 use mathlib.Core.Path.{refl, sym, ◌∙◌}
-use mathlib.Core.Logic.{⊎_elim}
 use native.Mathlib.Omega.{arith}
 use Rattle.machine.specs.Colouring.{coloured}
 use Rattle.machine.proofs.LowestBit.{lowest_within, lowest_sub, lowest_less}
 use Rattle.part_mark.proofs.Whites.{come_first, come_settled, come_white, come_damaged, come_end}
 use borrow.Author.Rules.{rules}
 use Rattle.part_mark.proofs.seen_all.Goals as goal
+use Rattle.part_mark.proofs.seen_all.Goals.{in-Settled, in-ToGrey}
 
 pub loop-rest-init : goal.loop-rest-init
 loop-rest-init c =
@@ -52,10 +52,10 @@ loop-rest-preserved c =
     let b = c.loop-rest.invariant.1 in
     let n = c.loop-rest-test.true in
     let l = lowest_sub _ _ c.loop-rest.invariant.0 n refl in
-    ⊎_elim
-    (λ k. rw k.2 (omega arith, omega arith, λ g. c.loop-rest.invariant.2 g ∙ come_settled (coloured c.args.m g c.args.colours.now) c.args.part.now _ _ c.loop-rest.invariant.0 n refl _ (c.seen.ensures g) c.loop-rest.white k.1.given.1))
-    (λ k. rw k.2 (omega arith, omega arith, λ g. c.loop-rest.invariant.2 g ∙ come_white (coloured c.args.m g c.args.colours.now) c.args.part.now _ _ c.loop-rest.invariant.0 n refl _ (c.seen.ensures g) c.loop-rest.white k.1.given.1))
-    c.match-seen.branch
+    elim c.match-seen.branch [
+      in-Settled w ↦ rw w.white-is (omega arith, omega arith, λ g. c.loop-rest.invariant.2 g ∙ come_settled (coloured c.args.m g c.args.colours.now) c.args.part.now _ _ c.loop-rest.invariant.0 n refl _ (c.seen.ensures g) c.loop-rest.white w.in-Settled.is)
+    | in-ToGrey w ↦ rw w.white-is (omega arith, omega arith, λ g. c.loop-rest.invariant.2 g ∙ come_white (coloured c.args.m g c.args.colours.now) c.args.part.now _ _ c.loop-rest.invariant.0 n refl _ (c.seen.ensures g) c.loop-rest.white w.in-ToGrey.is)
+    ]
 
 pub returns : goal.returns
 returns c =

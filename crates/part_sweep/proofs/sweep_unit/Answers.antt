@@ -6,6 +6,7 @@ use Rattle.machine.proofs.Blocks.{block_as}
 use Rattle.machine.proofs.Running.{met_sweeping, unit_by, sweeps_block}
 use Rattle.part_step.proofs.Picking.{sweeps_or}
 use Rattle.part_sweep.proofs.Ending.{advance_settles, stepped}
+use borrow.Enum.Refused.{opened}
 use Rattle.part_sweep.proofs.sweep_unit.Goals as goal
 
 pub word_of-word-requires : goal.word_of-word-requires
@@ -49,4 +50,4 @@ pub returns-in_default : goal.returns-in_default
 unfolding act ended
 returns-in_default c =
     let met = met_sweeping c.args.r c.args.words.now c.args.colours.now c.args.bytes.now c.requires.1 (sweeps_block _ c.requires.0 c.requires.1) c.word_of-word.ensures in
-    (unit_by c.args.r c.args.words.now c.args.colours.now c.args.bytes.now met c.step.ensures (sweeps_or _ _ _ _ c.step.ensures c.requires.1 c.in_default.in_default-own.keys4) refl, tt)
+    (unit_by c.args.r c.args.words.now c.args.colours.now c.args.bytes.now met c.step.ensures (sweeps_or _ _ _ _ c.step.ensures c.requires.1 (opened c.in_default.in_default-own.keys4)) refl, tt)

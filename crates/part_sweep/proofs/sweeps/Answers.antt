@@ -23,13 +23,13 @@ pub overflow_sub-result : goal.overflow_sub-result
 overflow_sub-result c = c.loop-s.invariant.3.from
 
 pub shape_of-words-in_default : goal.shape_of-words-in_default
-shape_of-words-in_default c = c.sweep_unit.auto.1.0 ∙ c.loop-s.invariant.0
+shape_of-words-in_default c = c.sweep_unit.auto.words ∙ c.loop-s.invariant.0
 
 pub shape_of-colours-in_default : goal.shape_of-colours-in_default
-shape_of-colours-in_default c = c.sweep_unit.auto.1.1.0 ∙ c.loop-s.invariant.1
+shape_of-colours-in_default c = c.sweep_unit.auto.colours ∙ c.loop-s.invariant.1
 
 pub shape_of-bytes-in_default : goal.shape_of-bytes-in_default
-shape_of-bytes-in_default c = c.sweep_unit.auto.1.1.1.0 ∙ c.loop-s.invariant.2
+shape_of-bytes-in_default c = c.sweep_unit.auto.bytes ∙ c.loop-s.invariant.2
 
 pub returns-in_default : goal.returns-in_default
 returns-in_default c =
@@ -41,9 +41,9 @@ loop-s-smaller c = stop_nearer _ _ _ _ _ _ _ _ c.loop-s.invariant.3 c.loop-s-tes
 pub loop-s-preserved : goal.loop-s-preserved
 loop-s-preserved c =
     (
-      c.sweep_unit.auto.1.0 ∙ c.loop-s.invariant.0,
-      c.sweep_unit.auto.1.1.0 ∙ c.loop-s.invariant.1,
-      c.sweep_unit.auto.1.1.1.0 ∙ c.loop-s.invariant.2,
+      c.sweep_unit.auto.words ∙ c.loop-s.invariant.0,
+      c.sweep_unit.auto.colours ∙ c.loop-s.invariant.1,
+      c.sweep_unit.auto.bytes ∙ c.loop-s.invariant.2,
       swept_on _ _ _ _ c.loop-s.s c.loop-s.words c.loop-s.colours c.loop-s.bytes c.loop-s.invariant.3 c.loop-s-test.true
           _ _ _ c.sweep_unit.ensures.0 c.sweep_unit.ensures.1 _ c.in-Done.is,
     )

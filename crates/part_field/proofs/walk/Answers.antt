@@ -1,0 +1,30 @@
+-- `part_field::walk` meets its contract: what the whole walk gives is what the rest of it gives. Assumes nothing.
+use mathlib.Core.Path.{refl}
+use native.Mathlib.Omega.{arith}
+use Rattle.machine.proofs.Fields.{way_begins, way_on}
+use Rattle.part_field.proofs.Walking.{walk_stops, walk_ends}
+use Rattle.part_field.proofs.walk.Goals as goal
+
+pub loop-left-init : goal.loop-left-init
+loop-left-init c =
+    let (d, l) = c.requires in way_begins _ _ _ l
+
+pub follow_refusal-requires : goal.follow_refusal-requires
+follow_refusal-requires c =
+    let (d, l) = c.requires in (d, c.loop-left.invariant.here)
+
+pub returns-then-follow_refusal-ne0 : goal.returns-then-follow_refusal-ne0
+returns-then-follow_refusal-ne0 c = walk_stops c.loop-left.invariant c.follow_refusal.ensures c.if-follow_refusal-ne0.true
+
+pub overflow_sub-at : goal.overflow_sub-at
+overflow_sub-at c = c.loop-left.invariant.here.low
+
+pub bounds-words-at : goal.bounds-words-at
+bounds-words-at c =
+    let (d, l) = c.requires in let i = c.loop-left.invariant.here in omega arith
+
+pub loop-left-preserved : goal.loop-left-preserved
+loop-left-preserved c = way_on c.loop-left.invariant _ _ _ (omega arith) c.follow_refusal.ensures c.if-follow_refusal-ne0.false refl
+
+pub returns : goal.returns
+returns c = walk_ends c.loop-left.invariant (omega arith)

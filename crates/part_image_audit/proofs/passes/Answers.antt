@@ -1,0 +1,66 @@
+-- `part_image_audit::passes` meets its contract: M and U, then the registers, then the rest. Assumes nothing.
+use mathlib.Core.Path.{refl, ◌∙◌, ap}
+use Rattle.machine.specs.Audit.{passes}
+use Rattle.machine.proofs.Tests.{so}
+use Rattle.machine.proofs.Frames.{framed_long}
+use Rattle.part_image.proofs.Framing.{framed_least}
+use Rattle.part_image_audit.proofs.Held.{held_numbers, held_most, held_as, held_laid, held_entry, unfit_off, illegal_off}
+use borrow.Author.Rules.{rules}
+use Rattle.part_image_audit.proofs.passes.Goals as goal
+
+pub number_at-requires : goal.number_at-requires
+number_at-requires c =
+    let l = framed_least _ c.requires in search rules
+
+pub number_at-requires-2 : goal.number_at-requires-2
+number_at-requires-2 c =
+    let l = framed_least _ c.requires in search rules
+
+pub get_registers-r-requires : goal.get_registers-r-requires
+get_registers-r-requires c =
+    let i = c.args.image.now in
+    let f = c.requires in
+    let n = held_numbers i f c.number_at.ensures c.number_at-2.ensures c.numbers_fit.ensures in
+    let h = so n c.if-numbers_fit.true in
+    (f, held_most i f h)
+
+pub legal-requires : goal.legal-requires
+legal-requires c =
+    let i = c.args.image.now in
+    let f = c.requires in
+    let n = held_numbers i f c.number_at.ensures c.number_at-2.ensures c.numbers_fit.ensures in
+    let h = so n c.if-numbers_fit.true in
+    (held_laid i f h c.get_registers-r.ensures refl).most
+
+pub behind_registers-requires : goal.behind_registers-requires
+behind_registers-requires c = framed_long _ c.requires
+
+pub passes_after-requires : goal.passes_after-requires
+passes_after-requires c =
+    let i = c.args.image.now in
+    let f = c.requires in
+    let n = held_numbers i f c.number_at.ensures c.number_at-2.ensures c.numbers_fit.ensures in
+    let h = so n c.if-numbers_fit.true in
+    let e = c.get_registers-r.ensures in
+    let p = c.behind_registers.ensures in
+    (held_laid i f h e p, held_entry i f h e p (so c.legal.ensures c.if-legal.true))
+
+pub returns-then-legal : goal.returns-then-legal
+returns-then-legal c =
+    let e = c.get_registers-r.ensures in
+    c.passes_after.ensures ∙ ap passes (held_as c.args.image.now c.requires e c.behind_registers.ensures)
+
+pub returns-else-legal : goal.returns-else-legal
+returns-else-legal c =
+    let i = c.args.image.now in
+    let f = c.requires in
+    let n = held_numbers i f c.number_at.ensures c.number_at-2.ensures c.numbers_fit.ensures in
+    let h = so n c.if-numbers_fit.true in
+    illegal_off _ h c.get_registers-r.ensures (so c.legal.ensures c.if-legal.false)
+
+pub returns-else-numbers_fit : goal.returns-else-numbers_fit
+returns-else-numbers_fit c =
+    let i = c.args.image.now in
+    let f = c.requires in
+    let n = held_numbers i f c.number_at.ensures c.number_at-2.ensures c.numbers_fit.ensures in
+    unfit_off _ (so n c.if-numbers_fit.false)
