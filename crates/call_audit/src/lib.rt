@@ -88,7 +88,7 @@ pub fn passes(r: Regs, words: &[u32], colours: &[u32], bytes: &[u8]) -> bool
 
 // Audit: 1 for a well-formed heap, else 0. It never refuses and changes nothing.
 pub fn audit(r: Regs, words: &[u32], colours: &[u32], bytes: &[u8]) -> Answer
-    ensures bytes_value { (record { answer = result; heap = heap r words.now colours.now bytes.now }) ≡ audit (heap r words.now colours.now bytes.now) }
+    ensures answered { (record { answer = result; heap = heap r words.now colours.now bytes.now }) ≡ audit (heap r words.now colours.now bytes.now) }
     ensures meaning { (result.value ≡ 1) ↔ WellFormed (heap r words.now colours.now bytes.now) }
 {
     if passes(r, words, colours, bytes) {

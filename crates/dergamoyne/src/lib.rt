@@ -269,7 +269,7 @@ pub extern "C" fn dergamoyne_audit(
     colours: &[u32],
     bytes: &[u8],
 ) -> Answer
-    ensures bytes_value { (record { answer = result; heap = heap regs words.now colours.now bytes.now }) ≡ audit (heap regs words.now colours.now bytes.now) }
+    ensures answered { (record { answer = result; heap = heap regs words.now colours.now bytes.now }) ≡ audit (heap regs words.now colours.now bytes.now) }
     ensures meaning { (result.value ≡ 1) ↔ WellFormed (heap regs words.now colours.now bytes.now) }
 {
     call_audit::audit(regs, words, colours, bytes)

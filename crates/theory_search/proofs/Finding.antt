@@ -137,7 +137,7 @@ module _ {m root : ℕ} {names : ℕ → ℕ → ℕ} where
       let here : get_or f.blocks i 0 ≡ b = rw p.queue (get_or_at past b ahead 0 i e) in
       let q = visited b (ready past b ahead g p) (next_in past b ahead g p) in
       rw (lt-ltb i (length f.blocks) (omega (arith, ap length p.queue ∙ length-append past (b ∷ ahead))), here)
-      (went n (i + 1) (past ++ (b ∷ [])) (ahead ++ q.new) q.going (on past b ahead g p q)
+      (went {code = q.codes} n (i + 1) (past ++ (b ∷ [])) (ahead ++ q.new) q.going (on past b ahead g p q)
       (length-append past (b ∷ []) ∙ omega arith) (omega arith))
 
 nothing : (m x : ℕ) → Block m x → came_to (replicate m 0) x ≡ 0

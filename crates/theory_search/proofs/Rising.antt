@@ -49,18 +49,18 @@ module _ {code : ℕ → ℕ} where
   pub rising_before :
       {lo hi y : ℕ} (b : ℕ) (l k : List ℕ) → Rising code lo (l ++ (b ∷ k)) hi → In y l
       → code y < code b
-  rising_before b [] k r i = absurd (Memᴰ.not-nil i)
-  rising_before b (a ∷ l) k (next h r) i =
+  rising_before {lo = lo} b [] k r i = absurd (Memᴰ.not-nil i)
+  rising_before {lo = lo} b (a ∷ l) k (next h r) i =
       ⊎_elim
       (λ e. rw e (omega (arith, (rising_in r (Memᴰ.append_right l (Memᴰ.head refl))).0)))
-      (λ j. rising_before b l k r j)
+      (λ j. rising_before {lo = code a + 1} b l k r j)
       (Memᴰ.cases_cons i)
 
   pub rising_after :
       {lo hi y : ℕ} (b : ℕ) (l k : List ℕ) → Rising code lo (l ++ (b ∷ k)) hi → In y k
       → code b < code y
-  rising_after b [] k (next h r) i = omega (arith, (rising_in r i).0)
-  rising_after b (a ∷ l) k (next h r) i = rising_after b l k r i
+  rising_after {lo = lo} b [] k (next h r) i = omega (arith, (rising_in r i).0)
+  rising_after {lo = lo} b (a ∷ l) k (next h r) i = rising_after {lo = code a + 1} b l k r i
 
   pub rising_up : {lo hi up : ℕ} {l : List ℕ} → Rising code lo l hi → hi ≤ up → Rising code lo l up
   rising_up {up} (none {lo} h) g = none {lo = lo} {hi = up} (omega arith)

@@ -217,7 +217,7 @@ module _ {m root : ℕ} {names : ℕ → ℕ → ℕ} where
   visited_from {code} {f} (suc n) w s t b g i e at up =
       let p = meets g b w i (omega arith) at in
       let i' : In b (meet m b w (names b w) f).blocks = rw p.grown (Memᴰ.append_left p.new i) in
-      onto p (visited_from n (w + 1) (s + 1) t b p.going i' (omega arith) (omega (arith, p.same b i)) (omega arith))
+      onto p (visited_from {code = p.codes} n (w + 1) (s + 1) t b p.going i' (omega arith) (omega (arith, p.same b i)) (omega arith))
 
   pub visited :
       {code : ℕ → ℕ} {f : Found} (b : ℕ) → Going m root names code (8 * code b) f → In b f.blocks
