@@ -6,10 +6,11 @@
 -- Assumes nothing.
 use Rattle.std.specs.Prelude.{ℕ, eqb}
 use prog.Memory.{size}
+use denote.Memory.{lone}
 use Rattle.machine.specs.Tests.{if◌then◌else◌}
 use Rattle.machine.specs.Heap.{Heap}
 use Rattle.machine.specs.Read.{read_refusal, look_at}
-use Rattle.machine.proofs.Regs.TheLaws as Regs
+use Rattle.machine.specs.contracts.Regs.{the_row}
 
 unfoldable pub no_index : ℕ
 no_index = 4294967295
@@ -22,4 +23,4 @@ unfoldable pub version : ℕ
 version = 8000
 
 unfoldable pub record_size : ℕ
-record_size = size Regs.mir
+record_size = size (lone the_row.mir)

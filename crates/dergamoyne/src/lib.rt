@@ -60,7 +60,7 @@ pub extern "C" fn dergamoyne_format(
     m: u32,
     u: u32,
 ) -> Answer
-    ensures { given (record { regs = regs.exit.now; answer = result }) words.new colours.new bytes.new ≡ format m u (heap regs.entry.now words.old colours.old bytes.old) }
+    ensures { given (record { regs = regs.new; answer = result }) words.new colours.new bytes.new ≡ format m u (heap regs.old words.old colours.old bytes.old) }
 {
     let formatted = call_format::format(*regs, words, colours, bytes, m, u);
     *regs = formatted.regs;
@@ -118,7 +118,7 @@ pub extern "C" fn dergamoyne_store_number(
     w: u32,
     v: u32,
 ) -> Answer
-    ensures { given (record { regs = regs.exit.now; answer = result }) words.new colours.new bytes.new ≡ store_number b w v (heap regs.entry.now words.old colours.old bytes.old) }
+    ensures { given (record { regs = regs.new; answer = result }) words.new colours.new bytes.new ≡ store_number b w v (heap regs.old words.old colours.old bytes.old) }
 {
     let stored = call_store::store_number(*regs, words, colours, bytes, b, w, v);
     stored.answer
@@ -135,7 +135,7 @@ pub extern "C" fn dergamoyne_store_reference(
     w: u32,
     t: u32,
 ) -> Answer
-    ensures { given (record { regs = regs.exit.now; answer = result }) words.new colours.new bytes.new ≡ store_reference b w t (heap regs.entry.now words.old colours.old bytes.old) }
+    ensures { given (record { regs = regs.new; answer = result }) words.new colours.new bytes.new ≡ store_reference b w t (heap regs.old words.old colours.old bytes.old) }
 {
     let stored = call_store::store_reference(*regs, words, colours, bytes, b, w, t);
     regs.grey = stored.regs.grey;
@@ -151,7 +151,7 @@ pub extern "C" fn dergamoyne_set_root(
     bytes: &mut [u8],
     t: u32,
 ) -> Answer
-    ensures { given (record { regs = regs.exit.now; answer = result }) words.new colours.new bytes.new ≡ set_root t (heap regs.entry.now words.old colours.old bytes.old) }
+    ensures { given (record { regs = regs.new; answer = result }) words.new colours.new bytes.new ≡ set_root t (heap regs.old words.old colours.old bytes.old) }
 {
     let set = call_store::set_root(*regs, words, colours, bytes, t);
     regs.grey = set.regs.grey;
@@ -169,7 +169,7 @@ pub extern "C" fn dergamoyne_allocate(
     b: u32,
     w: u32,
 ) -> Answer
-    ensures { given (record { regs = regs.exit.now; answer = result }) words.new colours.new bytes.new ≡ allocate b w (heap regs.entry.now words.old colours.old bytes.old) }
+    ensures { given (record { regs = regs.new; answer = result }) words.new colours.new bytes.new ≡ allocate b w (heap regs.old words.old colours.old bytes.old) }
 {
     let taken = call_allocate::allocate(*regs, words, colours, bytes, b, w);
     *regs = taken.regs;
@@ -188,7 +188,7 @@ pub extern "C" fn dergamoyne_allocate_chain(
     w: u32,
     n: u32,
 ) -> Answer
-    ensures { given (record { regs = regs.exit.now; answer = result }) words.new colours.new bytes.new ≡ allocate_chain b w n (heap regs.entry.now words.old colours.old bytes.old) }
+    ensures { given (record { regs = regs.new; answer = result }) words.new colours.new bytes.new ≡ allocate_chain b w n (heap regs.old words.old colours.old bytes.old) }
 {
     let chained = call_chain::allocate_chain(*regs, words, colours, bytes, b, w, n);
     *regs = chained.regs;
@@ -221,7 +221,7 @@ pub extern "C" fn dergamoyne_store_field_number(
     k: u32,
     v: u32,
 ) -> Answer
-    ensures { given (record { regs = regs.exit.now; answer = result }) words.new colours.new bytes.new ≡ store_field_number b k v (heap regs.entry.now words.old colours.old bytes.old) }
+    ensures { given (record { regs = regs.new; answer = result }) words.new colours.new bytes.new ≡ store_field_number b k v (heap regs.old words.old colours.old bytes.old) }
 {
     let stored = call_field::store_field_number(*regs, words, colours, bytes, b, k, v);
     stored.answer
@@ -238,7 +238,7 @@ pub extern "C" fn dergamoyne_store_field_reference(
     k: u32,
     t: u32,
 ) -> Answer
-    ensures { given (record { regs = regs.exit.now; answer = result }) words.new colours.new bytes.new ≡ store_field_reference b k t (heap regs.entry.now words.old colours.old bytes.old) }
+    ensures { given (record { regs = regs.new; answer = result }) words.new colours.new bytes.new ≡ store_field_reference b k t (heap regs.old words.old colours.old bytes.old) }
 {
     let written = call_field::store_field_reference(*regs, words, colours, bytes, b, k, t);
     regs.grey = written.regs.grey;
@@ -254,7 +254,7 @@ pub extern "C" fn dergamoyne_work(
     bytes: &mut [u8],
     n: u32,
 ) -> Answer
-    ensures { given (record { regs = regs.exit.now; answer = result }) words.new colours.new bytes.new ≡ work n (heap regs.entry.now words.old colours.old bytes.old) }
+    ensures { given (record { regs = regs.new; answer = result }) words.new colours.new bytes.new ≡ work n (heap regs.old words.old colours.old bytes.old) }
 {
     let worked = call_work::work(*regs, words, colours, bytes, n);
     *regs = worked.regs;
@@ -352,7 +352,7 @@ pub extern "C" fn dergamoyne_load(
     bytes: &mut [u8],
     image: &[u8],
 ) -> Answer
-    ensures { given (record { regs = regs.exit.now; answer = result }) words.new colours.new bytes.new ≡ load image.now (heap regs.entry.now words.old colours.old bytes.old) }
+    ensures { given (record { regs = regs.new; answer = result }) words.new colours.new bytes.new ≡ load image.now (heap regs.old words.old colours.old bytes.old) }
 {
     let loaded = call_load::load(*regs, words, colours, bytes, image);
     *regs = loaded.regs;
