@@ -13,7 +13,7 @@ use mathlib.Core.List.{List, [], ◌∷◌}
 use lib.Dec.{T}
 use lib.ListN.{get_or}
 use seplogic.Ra.Ura.{Ura}
-use seplogic.Ra.TreeShare.{full_share}
+use base.Fraction.{full_share}
 use mir.Syntax.{Ty, named, mut, w32, ty_int, ty_ref, deref, field, place, copy, rv_opd, Body, seq, assign}
 use mir.Val.{Val, Vals, vcons, vnil, vint, vptr, vstruct, WT, has_ty}
 use mir.Fields.{get_v, set_v}

@@ -15,7 +15,7 @@ use mathlib.Core.List.{List, [], ◌∷◌, ◌++◌}
 use lib.Dec.{T}
 use lib.ListN.{get_or, length}
 use seplogic.Ra.Ura.{Ura}
-use seplogic.Ra.TreeShare.{full_share}
+use base.Fraction.{full_share}
 use mir.Syntax.{w8, w32, Ty, named, imm, ty_int, ty_ref, Step as PStep, place, Opd as Operand, copy, Local, local, value_local}
 use mir.Val.{Val, vint, WT, has_ty}
 use base.Logic.{ent, sep, via}
