@@ -16,7 +16,7 @@ use mathlib.Core.List.{[], ◌∷◌, List}
 use lib.ListN.{length}
 use seplogic.Ra.Ura.{Ura}
 use base.Fraction.{full_share}
-use mir.Syntax.{Callee, Ty, named, erased, mut, w8, w32, ty_int, ty_ref, deref, field, place, copy, rv_opd, addr_of, aggregate, local, Local, value_local, seq, assign, call, return, Fn}
+use mir.Syntax.{Callee, Ty, named, erased, mut, w8, w32, ty_int, ty_ref, deref, field, place, copy, rv_opd, addr_of, aggregate, local, value_local, seq, assign, call, return, Fn}
 use mir.Val.{Val, vptr}
 use base.Logic.{SProp, ent, emp, via, fst∗, id⊢}
 use base.Fml.{Lft, Share, GName, Fml, fsep, fat, flft, fobs, fbor}
@@ -29,7 +29,7 @@ use contract.Running.{Running, tables, tables_of}
 use contract.Lifetimes.{Lfts, Shares, AllOutlive, toks}
 use types.Kit.{Item, ‵, raw, some, later, ◌⊛◌, ⋆, ◌$◌, ◌∵◌, !, qed, by, move, keep, drop, use0, use1, use2, split, join, pick, rewrite}
 use types.Kit.{fsplit, fsplit3, fjoin, fjoin3, feq_l, feq_i, suffices, frame, await, done}
-use types.Run.{look, look_raw, init, forget, stop, hop, fld, from, load, addr, of_opd, and_then, no_more, assigns, land, returns, enter, alloc1, alloc0, params1, pass1, free1, free0}
+use types.Run.{look, look_raw, init, forget, stop, hop, fld, from, load, addr, of_opd, and_then, no_more, assigns, land, returns, enter, alloc1, params1, pass1, free1}
 use types.Part.{agg, whole, sub, look_in}
 use types.SemTy.{Body as Lent, Arr}
 use types.Hole.{Holey}
@@ -66,7 +66,7 @@ use Rattle.machine.proofs.Outcome.TheLaws as O'
 use Rattle.theory_lending.proofs.Copied as Copied
 use Rattle.theory_lending.proofs.Copied.{Kind, lives, Data, Takes, told, Small, slots, read, write, read_write, vals, ints}
 use Rattle.theory_lending.proofs.Back.{tmp, record_ref, Back}
-use Rattle.theory_lending.proofs.Locals.{with_copied, opds, allocs_copied, passes_copied, frees_copied, past, at_place, has_after, reads_copied}
+use Rattle.theory_lending.proofs.Locals.{with_copied, opds, allocs_copied, passes_copied, frees_copied, valued, homes, allocs_valued, frees_valued, up, past, at_place, has_after, reads_copied}
 use Rattle.theory_lending.proofs.Meeting.{core_lives, outer_lives, signature, ended, core_signature, core_ended, clauses, core_clauses, Outer, Core, stayed, Keeps}
 
 -- ---- the MIR
@@ -90,13 +90,9 @@ to_word = lent (ty_int w32)
 abbrev to_byte : Ty
 to_byte = lent (ty_int w8)
 
-abbrev valued : List Ty → List Local
-valued [] = []
-valued (τ ∷ τs) = local τ value_local ∷ valued τs
-
--- the temporaries: what the core gives, the registers, and for each slice a pointer and the slice lent again
-abbrev temporaries : List Ty
-temporaries = O'.mir ∷ T'.mir ∷ to_word ∷ slice_ty to_word ∷ to_word ∷ slice_ty to_word ∷ to_byte ∷ slice_ty to_byte ∷ []
+-- the temporaries: what the core gives, the registers, for each slice a pointer and the slice lent again, and those of what is written back
+abbrev temporaries : List Ty → List Ty
+temporaries τs = O'.mir ∷ T'.mir ∷ to_word ∷ slice_ty to_word ∷ to_word ∷ slice_ty to_word ∷ to_byte ∷ slice_ty to_byte ∷ τs
 
 abbrev pub function : (ks : List Kind) → Callee → Back (length ks) → Fn
 function ks f back = record {
@@ -106,7 +102,7 @@ function ks f back = record {
   givens = 0;
   params = suc (suc (suc (suc (length ks))));
   locals = local N'.mir value_local ∷ local record_ref value_local ∷ local words_type value_local ∷ local colours_type value_local
-      ∷ local bytes_type value_local ∷ with_copied 4 ks (valued temporaries);
+      ∷ local bytes_type value_local ∷ with_copied 4 ks (valued (temporaries back.temporaries));
   body = seq (assign (place (tmp (length ks) 1) []) (rv_opd (copy (place 1 (deref T'.mir ∷ [])))))
       (seq (assign (place (tmp (length ks) 2) []) (addr_of (place 2 (field 0 ∷ deref (ty_int w32) ∷ []))))
       (seq (assign (place (tmp (length ks) 3) []) (aggregate (copy (place (tmp (length ks) 2) []) ∷ copy (place 2 (field 1 ∷ [])) ∷ [])))
@@ -247,10 +243,12 @@ module _ (ks : List Kind) (S : Takes ks → B.Heap → Gives) (back : Back (leng
         enter ! C Λ (function ks f back) (vptr b o ∷ s₁ ∷ s₂ ∷ s₃ ∷ ints (outer_lives ks) κs 4 ks ns) _ $
         alloc1 ! (λ l₀. alloc1 ! (λ l₁. alloc1 ! (λ l₂. alloc1 ! (λ l₃. alloc1 ! (λ l₄. allocs_copied ! 4 ks (λ bs.
         alloc1 ! (λ m₀. alloc1 ! (λ m₁. alloc1 ! (λ m₂. alloc1 ! (λ m₃. alloc1 ! (λ m₄. alloc1 ! (λ m₅. alloc1 ! (λ m₆. alloc1 ! (λ m₇.
+        allocs_valued ! back.temporaries (λ cs.
         let D : List (Ty × ℕ) = (N'.mir, l₀) ∷ (record_ref, l₁) ∷ (words_type, l₂) ∷ (colours_type, l₃) ∷ (bytes_type, l₄) ∷ [] in
         let E : List (Ty × ℕ) = (O'.mir, m₀) ∷ (T'.mir, m₁) ∷ (to_word, m₂) ∷ (slice_ty to_word, m₃) ∷ (to_word, m₄) ∷ (slice_ty to_word, m₅)
-        ∷ (to_byte, m₆) ∷ (slice_ty to_byte, m₇) ∷ [] in
-        alloc0 ! $ params1 ! $ pass1 ! (init ! 23 refl (tt, tt)) $ pass1 ! (init ! 21 refl (tt, (tt, (record { fits = room₁.0 }, tt)))) $
+        ∷ (to_byte, m₆) ∷ (slice_ty to_byte, m₇) ∷ homes back.temporaries cs in
+        move ! (1 ∷ 2 ∷ 3 ∷ 4 ∷ 5 ∷ 6 ∷ 7 ∷ 8 ∷ 9 ∷ 10 ∷ 11 ∷ 12 ∷ 13 ∷ 14 ∷ 15 ∷ 16 ∷ 17 ∷ 18 ∷ 19 ∷ 20 ∷ 21 ∷ 22 ∷ 23 ∷ 24 ∷ 25 ∷ 26 ∷ 27 ∷ 28 ∷ 29 ∷ []) $
+        params1 ! $ pass1 ! (init ! 23 refl (tt, tt)) $ pass1 ! (init ! 21 refl (tt, (tt, (record { fits = room₁.0 }, tt)))) $
         pass1 ! (init ! 19 refl (tt, (tt, (record { fits = room₂.0 }, tt)))) $ pass1 ! (init ! 17 refl (tt, (tt, (record { fits = room₃.0 }, tt)))) $
         move ! (16 ∷ []) $ passes_copied ! (outer_lives ks) κs 4 ks bs ns small E (
         -- the record's borrow is opened
@@ -292,9 +290,8 @@ module _ (ks : List Kind) (S : Takes ks → B.Heap → Gives) (back : Back (leng
         move ! (4 ∷ []) $ split ! $ move ! (1 ∷ []) $ peeks ! O.the_row (Is O.the_row) (shows 𝓛 O.the_row) t (w ∷ []) (λ is.
         land ! (at_place ! (past 4 ks bs E 0 _) (stop !)) (init ! 26 refl ((LL.lawful O.the_type O'.the_laws 𝓛).typed t _ is).0) $
         rewrite ! 26 (λ (u : Val). ‵ (fat full_share O'.mir m₀ 0 u)) (ap only (LL.tells O.the_type O'.the_laws t _ is)) refl $
-        move ! (6 ∷ 26 ∷ 34 ∷ []) $ back.writes ! refl (past 4 ks bs E 0 _) is (kept e) (
-        move ! (3 ∷ 4 ∷ 5 ∷ 6 ∷ 7 ∷ 8 ∷ 0 ∷ 9 ∷ 10 ∷ 11 ∷ 12 ∷ 13 ∷ 14 ∷ 15 ∷ 16 ∷ 17 ∷ 18 ∷ 19 ∷ 20 ∷ 21 ∷ 22 ∷ 23 ∷ 24 ∷ 25 ∷ 26 ∷ 27 ∷ 1 ∷ 28 ∷ 29
-        ∷ 30 ∷ 31 ∷ 32 ∷ 33 ∷ 34 ∷ 2 ∷ []) $
+        move ! (6 ∷ 26 ∷ 34 ∷ 38 ∷ []) $ back.writes ! cs refl (past 4 ks bs E 0 _) (λ i. past 4 ks bs E (up 8 i) _) is (kept e) (
+        move ! (4 ∷ 5 ∷ 6 ∷ 7 ∷ 8 ∷ 9 ∷ 0 ∷ 10 ∷ 11 ∷ 12 ∷ 13 ∷ 14 ∷ 15 ∷ 16 ∷ 17 ∷ 18 ∷ 19 ∷ 20 ∷ 21 ∷ 22 ∷ 23 ∷ 24 ∷ 25 ∷ 26 ∷ 27 ∷ 28 ∷ 1 ∷ 29 ∷ 30 ∷ 31 ∷ 32 ∷ 33 ∷ 34 ∷ 35 ∷ 2 ∷ 36 ∷ 37 ∷ 38 ∷ []) $
         let owed = LL.owed O.the_type O'.the_laws t _ is in
         assigns ! (of_opd ! (load ! (at_place ! (past 4 ks bs E 0 _) (fld ! refl (stop !))) (look_in ! 26 (sub ! 1 refl (whole !))))) (from ! (stop !))
         (init ! 36 refl ((LL.lawful N.the_type N'.the_laws 𝓛).typed t.answer _ owed.1.0).0) $
@@ -309,9 +306,9 @@ module _ (ks : List Kind) (S : Takes ks → B.Heap → Gives) (back : Back (leng
         forget ! 24 refl $ move ! (24 ∷ 25 ∷ []) $ free1 ! $ forget ! 22 refl $ move ! (22 ∷ 23 ∷ []) $ free1 ! $
         forget ! 20 refl $ move ! (20 ∷ 21 ∷ []) $ free1 ! $ forget ! 18 refl $ move ! (18 ∷ 19 ∷ []) $ free1 ! $
         forget ! 16 refl $ move ! (16 ∷ 17 ∷ []) $ free1 ! $ forget ! 14 refl $ move ! (14 ∷ 15 ∷ []) $ free1 ! $
-        forget ! 12 refl $ move ! (12 ∷ 13 ∷ []) $ free1 ! $ forget ! 10 refl $ move ! (10 ∷ 11 ∷ []) $ free1 ! $ free0 ! $
+        forget ! 12 refl $ move ! (12 ∷ 13 ∷ []) $ free1 ! $ forget ! 10 refl $ move ! (10 ∷ 11 ∷ []) $ free1 ! $ move ! (10 ∷ []) $ frees_valued ! back.temporaries cs (
         keep ! (0 ∷ 1 ∷ 2 ∷ 4 ∷ 8 ∷ 7 ∷ 5 ∷ []) $ by ! (exits t zs.1.0 zs.1.1.0 zs.1.1.1.0 owed.1.0 e₁ e₂ e₃
-        (e ∙ ap (λ (n : Data ks). S (told ks n) before) (read_write (core_lives ks) κs.1 3 ks m))))))))))))))))))))))))))))))
+        (e ∙ ap (λ (n : Data ks). S (told ks n) before) (read_write (core_lives ks) κs.1 3 ks m))))))))))))))))))))))))))))))))
 
 -- ---- the law
 module _ (ks : List Kind) (S : Takes ks → B.Heap → Gives) (back : Back (length ks)) (keeps : Keeps ks S back) (f : Callee) {M : Type 1} {𝓤 : Ura M} (𝓛 : Logic 𝓤) where
