@@ -151,7 +151,8 @@ module _ (k : ℕ) where
     open 𝓛 use {H}
 
     pub writes_whole : K → (bs : Homes whole_temporaries) → Stand 𝓤 H E (spare k) whole_temporaries bs → {r : Regs} {Δ : List (Item 𝓤)}
-        → Seq K 𝓛 (Four whole_temporaries bs l m b o t.regs t Δ) (runs C Λ E rest q) → Seq K 𝓛 (Four whole_temporaries bs l m b o r t Δ) (runs C Λ E (whole_code rest) q)
+        → Seq K 𝓛 (Four whole_temporaries bs l m b o t.regs t Δ) (runs C Λ E rest q)
+        → Seq K 𝓛 (Four whole_temporaries bs l m b o r t Δ) (runs C Λ E (whole_code rest) q)
     writes_whole e bs stand h =
         let typed = (LL.lawful R.the_type R'.the_laws 𝓛).typed t.regs _ (LL.owed O.the_type O'.the_laws t _ is).0 in
         move e (3 ∷ []) $ split e $ split e $
@@ -162,7 +163,8 @@ module _ (k : ℕ) where
         (at_place e at_record (hop e (look e 5 refl) (stop e))) (store_raw e 3 refl typed.0) $
         forget e 0 refl $ join e $ join e $ move e (1 ∷ 2 ∷ 3 ∷ []) $ h
 
-    pub writes_fields : K → (at : ℕ → ℕ) (fs : List Register) (bs : Homes (fields_temporaries fs)) → Stand 𝓤 H E at (fields_temporaries fs) bs → {r : Regs} {Δ : List (Item 𝓤)}
+    pub writes_fields : K → (at : ℕ → ℕ) (fs : List Register) (bs : Homes (fields_temporaries fs))
+        → Stand 𝓤 H E at (fields_temporaries fs) bs → {r : Regs} {Δ : List (Item 𝓤)}
         → Seq K 𝓛 (Four (fields_temporaries fs) bs l m b o (taken fs t.regs r) t Δ) (runs C Λ E rest q)
         → Seq K 𝓛 (Four (fields_temporaries fs) bs l m b o r t Δ) (runs C Λ E (fields_code at fs rest) q)
     writes_fields e at [] bs stand h = h
@@ -181,7 +183,8 @@ module _ (k : ℕ) where
         (move e (4 ∷ 5 ∷ 3 ∷ []) $ join e $ join e $ move e (1 ∷ 2 ∷ 3 ∷ []) $ h)
 
     pub writes_only : K → (fs : List Register) (bs : Homes (fields_temporaries fs)) → Stand 𝓤 H E (spare k) (fields_temporaries fs) bs → {r : Regs} {Δ : List (Item 𝓤)}
-        → taken fs t.regs r ≡ t.regs → Seq K 𝓛 (Four (fields_temporaries fs) bs l m b o t.regs t Δ) (runs C Λ E rest q)
+        → taken fs t.regs r ≡ t.regs
+        → Seq K 𝓛 (Four (fields_temporaries fs) bs l m b o t.regs t Δ) (runs C Λ E rest q)
         → Seq K 𝓛 (Four (fields_temporaries fs) bs l m b o r t Δ) (runs C Λ E (fields_code (spare k) fs rest) q)
     writes_only e fs bs stand kept h =
         writes_fields e (spare k) fs bs stand (rewrite e 0 (λ (s : Regs). ‵ (fat full_share (raw_ty R'.mir) b o (the_record s))) kept refl $ h)

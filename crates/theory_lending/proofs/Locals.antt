@@ -8,9 +8,9 @@
 --     past                 the local j past them.        at_place     a place by what the environment has there
 --     Has, has_after       the environment has them at the locals from i on; it does, after the locals D
 --     reads_copied         the operands read their cells, in whatever signature the arguments are wanted
--- and locals of any list of types, which are empty but for what is stored meanwhile, also one entry
+-- Below them, locals of any list of types, one entry too.
 --     valued τs            the locals.        Homes τs, homes τs bs     their blocks, and the environment of them
---     Empty τs bs          the entry: room for them.        allocs_valued, frees_valued     they are allocated, freed
+--     Empty τs bs          the entry: room for them, with nothing stored.        allocs_valued, frees_valued     they are allocated, freed
 -- Assumes `Logic`.
 use mathlib.Core.Path.{◌≡◌, refl, sym, subst}
 use Prim.Native.Nat.{ℕ, zero, suc}

@@ -247,7 +247,9 @@ module _ (ks : List Kind) (S : Takes ks → B.Heap → Gives) (back : Back (leng
         let D : List (Ty × ℕ) = (N'.mir, l₀) ∷ (record_ref, l₁) ∷ (words_type, l₂) ∷ (colours_type, l₃) ∷ (bytes_type, l₄) ∷ [] in
         let E : List (Ty × ℕ) = (O'.mir, m₀) ∷ (T'.mir, m₁) ∷ (to_word, m₂) ∷ (slice_ty to_word, m₃) ∷ (to_word, m₄) ∷ (slice_ty to_word, m₅)
         ∷ (to_byte, m₆) ∷ (slice_ty to_byte, m₇) ∷ homes back.temporaries cs in
-        move ! (1 ∷ 2 ∷ 3 ∷ 4 ∷ 5 ∷ 6 ∷ 7 ∷ 8 ∷ 9 ∷ 10 ∷ 11 ∷ 12 ∷ 13 ∷ 14 ∷ 15 ∷ 16 ∷ 17 ∷ 18 ∷ 19 ∷ 20 ∷ 21 ∷ 22 ∷ 23 ∷ 24 ∷ 25 ∷ 26 ∷ 27 ∷ 28 ∷ 29 ∷ []) $
+        -- the temporaries of what is written back come last in the context
+        move ! (1 ∷ 2 ∷ 3 ∷ 4 ∷ 5 ∷ 6 ∷ 7 ∷ 8 ∷ 9 ∷ 10 ∷ 11 ∷ 12 ∷ 13 ∷ 14 ∷ 15 ∷ 16 ∷ 17 ∷ 18 ∷ 19 ∷ 20 ∷ 21 ∷ 22 ∷ 23 ∷ 24 ∷ 25 ∷ 26 ∷ 27
+        ∷ 28 ∷ 29 ∷ []) $
         params1 ! $ pass1 ! (init ! 23 refl (tt, tt)) $ pass1 ! (init ! 21 refl (tt, (tt, (record { fits = room₁.0 }, tt)))) $
         pass1 ! (init ! 19 refl (tt, (tt, (record { fits = room₂.0 }, tt)))) $ pass1 ! (init ! 17 refl (tt, (tt, (record { fits = room₃.0 }, tt)))) $
         move ! (16 ∷ []) $ passes_copied ! (outer_lives ks) κs 4 ks bs ns small E (
@@ -291,14 +293,15 @@ module _ (ks : List Kind) (S : Takes ks → B.Heap → Gives) (back : Back (leng
         land ! (at_place ! (past 4 ks bs E 0 _) (stop !)) (init ! 26 refl ((LL.lawful O.the_type O'.the_laws 𝓛).typed t _ is).0) $
         rewrite ! 26 (λ (u : Val). ‵ (fat full_share O'.mir m₀ 0 u)) (ap only (LL.tells O.the_type O'.the_laws t _ is)) refl $
         move ! (6 ∷ 26 ∷ 34 ∷ 38 ∷ []) $ back.writes ! cs refl (past 4 ks bs E 0 _) (λ i. past 4 ks bs E (up 8 i) _) is (kept e) (
-        move ! (4 ∷ 5 ∷ 6 ∷ 7 ∷ 8 ∷ 9 ∷ 0 ∷ 10 ∷ 11 ∷ 12 ∷ 13 ∷ 14 ∷ 15 ∷ 16 ∷ 17 ∷ 18 ∷ 19 ∷ 20 ∷ 21 ∷ 22 ∷ 23 ∷ 24 ∷ 25 ∷ 26 ∷ 27 ∷ 28 ∷ 1 ∷ 29 ∷ 30 ∷ 31 ∷ 32 ∷ 33 ∷ 34 ∷ 35 ∷ 2 ∷ 36 ∷ 37 ∷ 38 ∷ []) $
+        move ! (4 ∷ 5 ∷ 6 ∷ 7 ∷ 8 ∷ 9 ∷ 0 ∷ 10 ∷ 11 ∷ 12 ∷ 13 ∷ 14 ∷ 15 ∷ 16 ∷ 17 ∷ 18 ∷ 19 ∷ 20 ∷ 21 ∷ 22 ∷ 23 ∷ 24 ∷ 25 ∷ 26 ∷ 27 ∷ 28 ∷ 1
+        ∷ 29 ∷ 30 ∷ 31 ∷ 32 ∷ 33 ∷ 34 ∷ 35 ∷ 2 ∷ 36 ∷ 37 ∷ 38 ∷ []) $
         let owed = LL.owed O.the_type O'.the_laws t _ is in
         assigns ! (of_opd ! (load ! (at_place ! (past 4 ks bs E 0 _) (fld ! refl (stop !))) (look_in ! 26 (sub ! 1 refl (whole !))))) (from ! (stop !))
         (init ! 36 refl ((LL.lawful N.the_type N'.the_laws 𝓛).typed t.answer _ owed.1.0).0) $
         -- the record's borrow is closed at the new record
         owned ! R (Is R) (LL.makes T.the_type T'.the_plain 𝓛) t.regs _ owed.0 $
         move ! (7 ∷ 0 ∷ 9 ∷ 10 ∷ 11 ∷ []) $ closes ! tt R t.regs (mach t.regs ∷ []) b o $
-        -- the locals are freed: the answer and the parameters, the further ones, the temporaries
+        -- the locals are freed: the answer and the parameters, the further ones, the temporaries, those of what is written back
         returns ! (look ! 35 refl) $ forget ! 35 refl $ move ! (35 ∷ 36 ∷ []) $ free1 ! $
         forget ! 33 refl $ move ! (33 ∷ 34 ∷ []) $ free1 ! $ forget ! 31 refl $ move ! (31 ∷ 32 ∷ []) $ free1 ! $
         forget ! 29 refl $ move ! (29 ∷ 30 ∷ []) $ free1 ! $ forget ! 27 refl $ move ! (27 ∷ 28 ∷ []) $ free1 ! $
@@ -306,7 +309,8 @@ module _ (ks : List Kind) (S : Takes ks → B.Heap → Gives) (back : Back (leng
         forget ! 24 refl $ move ! (24 ∷ 25 ∷ []) $ free1 ! $ forget ! 22 refl $ move ! (22 ∷ 23 ∷ []) $ free1 ! $
         forget ! 20 refl $ move ! (20 ∷ 21 ∷ []) $ free1 ! $ forget ! 18 refl $ move ! (18 ∷ 19 ∷ []) $ free1 ! $
         forget ! 16 refl $ move ! (16 ∷ 17 ∷ []) $ free1 ! $ forget ! 14 refl $ move ! (14 ∷ 15 ∷ []) $ free1 ! $
-        forget ! 12 refl $ move ! (12 ∷ 13 ∷ []) $ free1 ! $ forget ! 10 refl $ move ! (10 ∷ 11 ∷ []) $ free1 ! $ move ! (10 ∷ []) $ frees_valued ! back.temporaries cs (
+        forget ! 12 refl $ move ! (12 ∷ 13 ∷ []) $ free1 ! $ forget ! 10 refl $ move ! (10 ∷ 11 ∷ []) $ free1 ! $
+        move ! (10 ∷ []) $ frees_valued ! back.temporaries cs (
         keep ! (0 ∷ 1 ∷ 2 ∷ 4 ∷ 8 ∷ 7 ∷ 5 ∷ []) $ by ! (exits t zs.1.0 zs.1.1.0 zs.1.1.1.0 owed.1.0 e₁ e₂ e₃
         (e ∙ ap (λ (n : Data ks). S (told ks n) before) (read_write (core_lives ks) κs.1 3 ks m))))))))))))))))))))))))))))))))
 
