@@ -6,7 +6,7 @@
 --     Small m              each fits: 32 bits; room in memory
 --     slots n j ks         their places in a signature of n lifetimes, of which theirs are those from j on.        Args ks     the arguments there
 --     stays, all_go        what a walk has of each at exit, nothing, and its law.        spells, tells     what each is on entry
---     read a, write m      the arguments of a signature, and back.        read-write     there and back is the same
+--     read a, write m      the arguments of a signature, and back.        read_write     there and back is the same
 --     vals a, ints a       their machine values, a list for each and in one list
 --     lasts, fits          their last values, of which there are none
 --     small                what is known of the arguments on entry

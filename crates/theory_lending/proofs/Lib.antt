@@ -2,5 +2,5 @@
 pub mod Copied
 pub mod Locals
 pub mod Back
-pub mod NoSecond
+pub mod Meeting
 pub mod Outer

@@ -8,6 +8,9 @@
 --     past                 the local j past them.        at_place     a place by what the environment has there
 --     Has, has_after       the environment has them at the locals from i on; it does, after the locals D
 --     reads_copied         the operands read their cells, in whatever signature the arguments are wanted
+-- Below them, locals of any list of types, one entry too.
+--     valued τs            the locals.        Homes τs, homes τs bs     their blocks, and the environment of them
+--     Empty τs bs          the entry: room for them, with nothing stored.        allocs_valued, frees_valued     they are allocated, freed
 -- Assumes `Logic`.
 use mathlib.Core.Path.{◌≡◌, refl, sym, subst}
 use Prim.Native.Nat.{ℕ, zero, suc}
@@ -15,7 +18,7 @@ use mathlib.Core.List.{List, [], ◌∷◌, ◌++◌}
 use lib.Dec.{T}
 use lib.ListN.{get_or, length}
 use seplogic.Ra.Ura.{Ura}
-use seplogic.Ra.TreeShare.{full_share}
+use base.Fraction.{full_share}
 use mir.Syntax.{w8, w32, Ty, named, imm, ty_int, ty_ref, Step as PStep, place, Opd as Operand, copy, Local, local, value_local}
 use mir.Val.{Val, vint, WT, has_ty}
 use base.Logic.{ent, sep, via}
@@ -24,7 +27,7 @@ use contract.Lifetimes.{Lfts}
 use prog.Wp.{Heap, Env, Spot, no_local, walk}
 use types.Logic.{Logic}
 use types.Kit.{Item, ‵, ◌⊛◌, mean, ⋆, nth, del, pull, unpull, push, pop, Goal, allocs, passes, frees, Seq, ◌$◌, ◌∵◌, !, qed, move, split, join, drop, done}
-use types.Run.{Walks, Finds, Opds, look, init, forget, stop, load, and_then, no_more, alloc1, pass1, pass0, free1}
+use types.Run.{Walks, Finds, Opds, look, init, forget, stop, load, and_then, no_more, alloc1, alloc0, pass1, pass0, free1, free0}
 use denote.Slice.{slice_ty, slice_val}
 use denote.Steps.{nothing}
 use Rattle.theory_lending.proofs.Copied.{Kind, number, shared, Datum, Data, Fits, Small, next, read, write, ints}
@@ -100,6 +103,36 @@ module _ {M : Type 1} {𝓤 : Ura M} {𝓛 : Logic 𝓤} {K : Type 0} where
       → Seq K 𝓛 Γ (frees E g) → Seq K 𝓛 (Cells j ks bs m ∷ Γ) (frees (env j ks bs E) g)
   frees_copied t j [] bs m h = drop t $ h
   frees_copied t j (k ∷ ks) bs m h = split t $ split t $ forget t 0 refl $ free1 t $ frees_copied t (next k j) ks bs.1 m.1 h
+
+-- ---- locals of any list of types
+abbrev pub valued : List Ty → List Local
+valued [] = []
+valued (τ ∷ τs) = local τ value_local ∷ valued τs
+
+abbrev pub Homes : List Ty → Type 0
+Homes [] = Unit {0}
+Homes (τ ∷ τs) = ℕ × Homes τs
+
+abbrev pub homes : (τs : List Ty) → Homes τs → List (Ty × ℕ)
+homes [] bs = []
+homes (τ ∷ τs) bs = (τ, bs.0) ∷ homes τs bs.1
+
+module _ {M : Type 1} {𝓤 : Ura M} where
+  abbrev pub Empty : (τs : List Ty) → Homes τs → Item 𝓤
+  Empty [] bs = ‵ ftrue
+  Empty (τ ∷ τs) bs = (‵ (froom τ bs.0 zero) ⊛ ‵ (fdies τ bs.0)) ⊛ Empty τs bs.1
+
+module _ {M : Type 1} {𝓤 : Ura M} {𝓛 : Logic 𝓤} {K : Type 0} where
+  open 𝓛 use {H}
+
+  pub allocs_valued : K → (τs : List Ty) {Kt : Env 𝓤 H → Goal 𝓤 H} {Γ : List (Item 𝓤)}
+      → ((bs : Homes τs) → Seq K 𝓛 (Empty τs bs ∷ Γ) (Kt (homes τs bs))) → Seq K 𝓛 Γ (allocs (valued τs) Kt)
+  allocs_valued t [] h = alloc0 t $ nothing t $ h tt
+  allocs_valued t (τ ∷ τs) h = alloc1 t (λ b. allocs_valued t τs (λ bs. move t (1 ∷ 2 ∷ []) $ join t $ join t $ h (b, bs)))
+
+  pub frees_valued : K → (τs : List Ty) (bs : Homes τs) {g : Goal 𝓤 H} {Γ : List (Item 𝓤)} → Seq K 𝓛 Γ g → Seq K 𝓛 (Empty τs bs ∷ Γ) (frees (homes τs bs) g)
+  frees_valued t [] bs h = drop t $ free0 t $ h
+  frees_valued t (τ ∷ τs) bs h = split t $ split t $ free1 t $ frees_valued t τs bs.1 h
 
 -- ---- places
 pub past : (j : ℕ) (ks : List Kind) (bs : Blocks ks) (E : List (Ty × ℕ)) (i : ℕ) (d : Ty × ℕ) → get_or (env j ks bs E) (up (length ks) i) d ≡ get_or E i d

@@ -3,7 +3,7 @@
 --     pub fn OUTER(regs: &mut Regs, words: &mut [u32], colours: &mut [u32], bytes: &mut [u8], the further) -> Answer {
 --         let o = CORE(*regs, words, colours, bytes, the further); BACK; o.answer
 --     }
--- meets the contract that CORE meets (NoSecond.antt), with the record at exit for the registers that CORE gives back. BACK is `*regs = o.regs`, or writes those
+-- meets the contract that CORE meets (Meeting.antt), with the record at exit for the registers that CORE gives back. BACK is `*regs = o.regs`, or writes those
 -- registers back that the call can change (Back.antt).
 --     function ks f back   the outer call's MIR, over a core of the name f
 --     lends                the law. All that it takes of the core is that it meets its contract, and of S that it keeps the registers that aren't written back
@@ -15,11 +15,11 @@ use Prim.Native.Nat.{ℕ, suc}
 use mathlib.Core.List.{[], ◌∷◌, List}
 use lib.ListN.{length}
 use seplogic.Ra.Ura.{Ura}
-use seplogic.Ra.TreeShare.{full_share}
-use mir.Syntax.{Name, Ty, named, erased, mut, w8, w32, ty_int, ty_ref, deref, field, place, copy, rv_opd, addr_of, aggregate, local, Local, value_local, seq, assign, call, return, Fn}
+use base.Fraction.{full_share}
+use mir.Syntax.{Callee, Ty, named, erased, mut, w8, w32, ty_int, ty_ref, deref, field, place, copy, rv_opd, addr_of, aggregate, local, value_local, seq, assign, call, return, Fn}
 use mir.Val.{Val, vptr}
 use base.Logic.{SProp, ent, emp, via, fst∗, id⊢}
-use base.Fml.{Lft, Share, GName, fat, flft, fobs, fbor}
+use base.Fml.{Lft, Share, GName, Fml, fsep, fat, flft, fobs, fbor}
 use prog.Model.{Model}
 use prog.Routine.{Routine, Env}
 use prog.Wp.{Calls, Loops, WpFn, Tables, Closed}
@@ -29,9 +29,10 @@ use contract.Running.{Running, tables, tables_of}
 use contract.Lifetimes.{Lfts, Shares, AllOutlive, toks}
 use types.Kit.{Item, ‵, raw, some, later, ◌⊛◌, ⋆, ◌$◌, ◌∵◌, !, qed, by, move, keep, drop, use0, use1, use2, split, join, pick, rewrite}
 use types.Kit.{fsplit, fsplit3, fjoin, fjoin3, feq_l, feq_i, suffices, frame, await, done}
-use types.Run.{look, look_raw, init, forget, stop, hop, fld, from, load, addr, of_opd, and_then, no_more, assigns, land, returns, enter, alloc1, alloc0, params1, pass1, free1, free0}
+use types.Run.{look, look_raw, init, forget, stop, hop, fld, from, load, addr, of_opd, and_then, no_more, assigns, land, returns, enter, alloc1, params1, pass1, free1}
 use types.Part.{agg, whole, sub, look_in}
-use types.SemTy.{Body as Lent}
+use types.SemTy.{Body as Lent, Arr}
+use types.Hole.{Holey}
 use sound.WpLaws.{FmC, fm_of, WpFn-mono}
 use denote.RattleType.{RattleType, Valss, owns}
 use denote.Memory.{mem}
@@ -65,8 +66,8 @@ use Rattle.machine.proofs.Outcome.TheLaws as O'
 use Rattle.theory_lending.proofs.Copied as Copied
 use Rattle.theory_lending.proofs.Copied.{Kind, lives, Data, Takes, told, Small, slots, read, write, read_write, vals, ints}
 use Rattle.theory_lending.proofs.Back.{tmp, record_ref, Back}
-use Rattle.theory_lending.proofs.Locals.{with_copied, opds, allocs_copied, passes_copied, frees_copied, past, at_place, has_after, reads_copied}
-use Rattle.theory_lending.proofs.NoSecond.{core_lives, outer_lives, signature, ended, core_signature, core_ended, clauses, core_clauses, Outer, Core, stayed, Keeps}
+use Rattle.theory_lending.proofs.Locals.{with_copied, opds, allocs_copied, passes_copied, frees_copied, valued, homes, allocs_valued, frees_valued, up, past, at_place, has_after, reads_copied}
+use Rattle.theory_lending.proofs.Meeting.{core_lives, outer_lives, signature, ended, core_signature, core_ended, clauses, core_clauses, Outer, Core, stayed, Keeps}
 
 -- ---- the MIR
 abbrev lent : Ty → Ty
@@ -89,21 +90,19 @@ to_word = lent (ty_int w32)
 abbrev to_byte : Ty
 to_byte = lent (ty_int w8)
 
-abbrev valued : List Ty → List Local
-valued [] = []
-valued (τ ∷ τs) = local τ value_local ∷ valued τs
+-- the temporaries: what the core gives, the registers, for each slice a pointer and the slice lent again, and those of what is written back
+abbrev temporaries : List Ty → List Ty
+temporaries τs = O'.mir ∷ T'.mir ∷ to_word ∷ slice_ty to_word ∷ to_word ∷ slice_ty to_word ∷ to_byte ∷ slice_ty to_byte ∷ τs
 
--- the temporaries: what the core gives, the registers, and for each slice a pointer and the slice lent again
-abbrev temporaries : List Ty
-temporaries = O'.mir ∷ T'.mir ∷ to_word ∷ slice_ty to_word ∷ to_word ∷ slice_ty to_word ∷ to_byte ∷ slice_ty to_byte ∷ []
-
-abbrev pub function : (ks : List Kind) → Name → Back (length ks) → Fn
+abbrev pub function : (ks : List Kind) → Callee → Back (length ks) → Fn
 function ks f back = record {
   lifetimes = outer_lives ks;
   outlives = [];
+  ty_params = [];
+  givens = 0;
   params = suc (suc (suc (suc (length ks))));
   locals = local N'.mir value_local ∷ local record_ref value_local ∷ local words_type value_local ∷ local colours_type value_local
-      ∷ local bytes_type value_local ∷ with_copied 4 ks (valued temporaries);
+      ∷ local bytes_type value_local ∷ with_copied 4 ks (valued (temporaries back.temporaries));
   body = seq (assign (place (tmp (length ks) 1) []) (rv_opd (copy (place 1 (deref T'.mir ∷ [])))))
       (seq (assign (place (tmp (length ks) 2) []) (addr_of (place 2 (field 0 ∷ deref (ty_int w32) ∷ []))))
       (seq (assign (place (tmp (length ks) 3) []) (aggregate (copy (place (tmp (length ks) 2) []) ∷ copy (place 2 (field 1 ∷ [])) ∷ [])))
@@ -202,11 +201,15 @@ module _ (ks : List Kind) (S : Takes ks → B.Heap → Gives) (back : Back (leng
       move ! (1 ∷ 0 ∷ []) $ fjoin ! $ move ! (1 ∷ 0 ∷ []) $ fjoin ! $ move ! (1 ∷ 0 ∷ []) $ fjoin ! $
       owned ! R (Is R) (LL.makes T.the_type T'.the_plain 𝓛) r _ g $ fjoin ! $ move ! (1 ∷ 0 ∷ []) $ join ! $ frame ! $ done !
 
+  -- what is left of a slice that was handed to the core: its last list, and its borrow
+  abbrev given_up : (E : RattleType) → Lft → MutBor (List E.Denot) → List E.Denot → Fml
+  given_up E κ x z = fsep (finally E x.ghost_name z) (fbor κ (Lent (Arr (Holey (mem E)) (length x.now)) x.ref_ptr.0 x.ref_ptr.1 x.ghost_name))
+
   -- what is left when the call has answered t and the slices' last lists are z₁, z₂, z₃
   abbrev leaves : Outcome → List ℕ → List ℕ → List ℕ → List (Item 𝓤)
   leaves t z₁ z₂ z₃ =
       ‵ (fobs γ (R.coded.code t.regs)) ∷ ‵ (fbor κ (Lent (mem R) b o γ)) ∷ ‵ (flft κ q) ∷ tokens
-      ∷ ‵ (finally u32 x₁.name z₁) ∷ ‵ (finally u32 x₂.name z₂) ∷ ‵ (finally u8 x₃.name z₃) ∷ []
+      ∷ ‵ (given_up u32 κ₁ x₁ z₁) ∷ ‵ (given_up u32 κ₂ x₂ z₂) ∷ ‵ (given_up u8 κ₃ x₃ z₃) ∷ []
 
   exits : (t : Outcome) (z₁ z₂ z₃ : List ℕ) → Is N.the_row t.answer (nmach t.answer ∷ [])
       → length z₁ ≡ length x₁.now → length z₂ ≡ length x₂.now → length z₃ ≡ length x₃.now → Says (told ks m) t z₁ z₂ z₃
@@ -232,7 +235,7 @@ module _ (ks : List Kind) (S : Takes ks → B.Heap → Gives) (back : Back (leng
   abbrev core_says : Outcome → CoreLasts → Type 0
   core_says t zs = Says (told ks (read (core_lives ks) κs.1 3 ks ns')) t zs.1.0 zs.1.1.0 zs.1.1.1.0
 
-  module _ (f : Name) (C : Calls 𝓤 H) (Λ : Loops 𝓤 H) (fm : FmC 𝓤 H 𝓛.laws C) (known : Triple 𝓤 (C f) (Core ks S 𝓤 𝓛)) where
+  module _ (f : Callee) (C : Calls 𝓤 H) (Λ : Loops 𝓤 H) (fm : FmC 𝓤 H 𝓛.laws C) (known : Triple 𝓤 (C f) (Core ks S 𝓤 𝓛)) where
     walk : Room u32 (length x₁.now) → Room u32 (length x₂.now) → Room u8 (length x₃.now)
         → ent 𝓤 (on_entry 𝓛 (signature ks) κs qs a values) (WpFn 𝓤 H C Λ (function ks f back) (vptr b o ∷ s₁ ∷ s₂ ∷ s₃ ∷ ints (outer_lives ks) κs 4 ks ns) Post)
     walk room₁ room₂ room₃ =
@@ -240,10 +243,14 @@ module _ (ks : List Kind) (S : Takes ks → B.Heap → Gives) (back : Back (leng
         enter ! C Λ (function ks f back) (vptr b o ∷ s₁ ∷ s₂ ∷ s₃ ∷ ints (outer_lives ks) κs 4 ks ns) _ $
         alloc1 ! (λ l₀. alloc1 ! (λ l₁. alloc1 ! (λ l₂. alloc1 ! (λ l₃. alloc1 ! (λ l₄. allocs_copied ! 4 ks (λ bs.
         alloc1 ! (λ m₀. alloc1 ! (λ m₁. alloc1 ! (λ m₂. alloc1 ! (λ m₃. alloc1 ! (λ m₄. alloc1 ! (λ m₅. alloc1 ! (λ m₆. alloc1 ! (λ m₇.
+        allocs_valued ! back.temporaries (λ cs.
         let D : List (Ty × ℕ) = (N'.mir, l₀) ∷ (record_ref, l₁) ∷ (words_type, l₂) ∷ (colours_type, l₃) ∷ (bytes_type, l₄) ∷ [] in
         let E : List (Ty × ℕ) = (O'.mir, m₀) ∷ (T'.mir, m₁) ∷ (to_word, m₂) ∷ (slice_ty to_word, m₃) ∷ (to_word, m₄) ∷ (slice_ty to_word, m₅)
-        ∷ (to_byte, m₆) ∷ (slice_ty to_byte, m₇) ∷ [] in
-        alloc0 ! $ params1 ! $ pass1 ! (init ! 23 refl (tt, tt)) $ pass1 ! (init ! 21 refl (tt, (tt, (record { fits = room₁.0 }, tt)))) $
+        ∷ (to_byte, m₆) ∷ (slice_ty to_byte, m₇) ∷ homes back.temporaries cs in
+        -- the temporaries of what is written back come last in the context
+        move ! (1 ∷ 2 ∷ 3 ∷ 4 ∷ 5 ∷ 6 ∷ 7 ∷ 8 ∷ 9 ∷ 10 ∷ 11 ∷ 12 ∷ 13 ∷ 14 ∷ 15 ∷ 16 ∷ 17 ∷ 18 ∷ 19 ∷ 20 ∷ 21 ∷ 22 ∷ 23 ∷ 24 ∷ 25 ∷ 26 ∷ 27
+        ∷ 28 ∷ 29 ∷ []) $
+        params1 ! $ pass1 ! (init ! 23 refl (tt, tt)) $ pass1 ! (init ! 21 refl (tt, (tt, (record { fits = room₁.0 }, tt)))) $
         pass1 ! (init ! 19 refl (tt, (tt, (record { fits = room₂.0 }, tt)))) $ pass1 ! (init ! 17 refl (tt, (tt, (record { fits = room₃.0 }, tt)))) $
         move ! (16 ∷ []) $ passes_copied ! (outer_lives ks) κs 4 ks bs ns small E (
         -- the record's borrow is opened
@@ -277,23 +284,24 @@ module _ (ks : List Kind) (S : Takes ks → B.Heap → Gives) (back : Back (leng
         -- what the core ensures, at some last lists
         split ! $ move ! (1 ∷ []) $ use1 𝓛 (some (λ (zs : CoreLasts). ‵ (lasts (core_ended ks) κs.1 a' zs) ⊛ raw (fact 𝓤 (core_says t zs)))) (id⊢ 𝓤 _) $
         pick ! (λ zs. split ! $ move ! (1 ∷ []) $ heard ! (core_says t zs) (λ e.
-        fsplit ! $ drop ! $ fsplit ! $ fsplit ! $ move ! (1 ∷ []) $ feq_l ! (λ e₁. move ! (1 ∷ []) $ fsplit ! $ fsplit ! $ move ! (1 ∷ []) $ feq_l ! (λ e₂.
-        move ! (1 ∷ []) $ fsplit ! $ fsplit ! $ move ! (1 ∷ []) $ feq_l ! (λ e₃.
-        -- [bytes' last list; …; colours'; words'; the tokens and the result; the record's cell; what it owns; the open borrow; obs; auth;
+        fsplit ! $ drop ! $ fsplit ! $ fsplit ! $ fsplit ! $ move ! (1 ∷ []) $ feq_l ! (λ e₁. fjoin ! $
+        move ! (1 ∷ []) $ fsplit ! $ fsplit ! $ fsplit ! $ move ! (1 ∷ []) $ feq_l ! (λ e₂. fjoin ! $
+        move ! (1 ∷ []) $ fsplit ! $ fsplit ! $ fsplit ! $ move ! (1 ∷ []) $ feq_l ! (λ e₃. fjoin ! $
+        -- [what is left of bytes; …; of colours; of words; the tokens and the result; the record's cell; what it owns; the open borrow; obs; auth;
         -- the further arguments' cells; the last temporary; …; _0; …]
         move ! (4 ∷ []) $ split ! $ move ! (1 ∷ []) $ peeks ! O.the_row (Is O.the_row) (shows 𝓛 O.the_row) t (w ∷ []) (λ is.
         land ! (at_place ! (past 4 ks bs E 0 _) (stop !)) (init ! 26 refl ((LL.lawful O.the_type O'.the_laws 𝓛).typed t _ is).0) $
         rewrite ! 26 (λ (u : Val). ‵ (fat full_share O'.mir m₀ 0 u)) (ap only (LL.tells O.the_type O'.the_laws t _ is)) refl $
-        move ! (6 ∷ 26 ∷ 34 ∷ []) $ back.writes ! refl (past 4 ks bs E 0 _) is (kept e) (
-        move ! (3 ∷ 4 ∷ 5 ∷ 6 ∷ 7 ∷ 8 ∷ 0 ∷ 9 ∷ 10 ∷ 11 ∷ 12 ∷ 13 ∷ 14 ∷ 15 ∷ 16 ∷ 17 ∷ 18 ∷ 19 ∷ 20 ∷ 21 ∷ 22 ∷ 23 ∷ 24 ∷ 25 ∷ 26 ∷ 27 ∷ 1 ∷ 28 ∷ 29
-        ∷ 30 ∷ 31 ∷ 32 ∷ 33 ∷ 34 ∷ 2 ∷ []) $
+        move ! (6 ∷ 26 ∷ 34 ∷ 38 ∷ []) $ back.writes ! cs refl (past 4 ks bs E 0 _) (λ i. past 4 ks bs E (up 8 i) _) is (kept e) (
+        move ! (4 ∷ 5 ∷ 6 ∷ 7 ∷ 8 ∷ 9 ∷ 0 ∷ 10 ∷ 11 ∷ 12 ∷ 13 ∷ 14 ∷ 15 ∷ 16 ∷ 17 ∷ 18 ∷ 19 ∷ 20 ∷ 21 ∷ 22 ∷ 23 ∷ 24 ∷ 25 ∷ 26 ∷ 27 ∷ 28 ∷ 1
+        ∷ 29 ∷ 30 ∷ 31 ∷ 32 ∷ 33 ∷ 34 ∷ 35 ∷ 2 ∷ 36 ∷ 37 ∷ 38 ∷ []) $
         let owed = LL.owed O.the_type O'.the_laws t _ is in
         assigns ! (of_opd ! (load ! (at_place ! (past 4 ks bs E 0 _) (fld ! refl (stop !))) (look_in ! 26 (sub ! 1 refl (whole !))))) (from ! (stop !))
         (init ! 36 refl ((LL.lawful N.the_type N'.the_laws 𝓛).typed t.answer _ owed.1.0).0) $
         -- the record's borrow is closed at the new record
         owned ! R (Is R) (LL.makes T.the_type T'.the_plain 𝓛) t.regs _ owed.0 $
         move ! (7 ∷ 0 ∷ 9 ∷ 10 ∷ 11 ∷ []) $ closes ! tt R t.regs (mach t.regs ∷ []) b o $
-        -- the locals are freed: the answer and the parameters, the further ones, the temporaries
+        -- the locals are freed: the answer and the parameters, the further ones, the temporaries, those of what is written back
         returns ! (look ! 35 refl) $ forget ! 35 refl $ move ! (35 ∷ 36 ∷ []) $ free1 ! $
         forget ! 33 refl $ move ! (33 ∷ 34 ∷ []) $ free1 ! $ forget ! 31 refl $ move ! (31 ∷ 32 ∷ []) $ free1 ! $
         forget ! 29 refl $ move ! (29 ∷ 30 ∷ []) $ free1 ! $ forget ! 27 refl $ move ! (27 ∷ 28 ∷ []) $ free1 ! $
@@ -301,12 +309,13 @@ module _ (ks : List Kind) (S : Takes ks → B.Heap → Gives) (back : Back (leng
         forget ! 24 refl $ move ! (24 ∷ 25 ∷ []) $ free1 ! $ forget ! 22 refl $ move ! (22 ∷ 23 ∷ []) $ free1 ! $
         forget ! 20 refl $ move ! (20 ∷ 21 ∷ []) $ free1 ! $ forget ! 18 refl $ move ! (18 ∷ 19 ∷ []) $ free1 ! $
         forget ! 16 refl $ move ! (16 ∷ 17 ∷ []) $ free1 ! $ forget ! 14 refl $ move ! (14 ∷ 15 ∷ []) $ free1 ! $
-        forget ! 12 refl $ move ! (12 ∷ 13 ∷ []) $ free1 ! $ forget ! 10 refl $ move ! (10 ∷ 11 ∷ []) $ free1 ! $ free0 ! $
+        forget ! 12 refl $ move ! (12 ∷ 13 ∷ []) $ free1 ! $ forget ! 10 refl $ move ! (10 ∷ 11 ∷ []) $ free1 ! $
+        move ! (10 ∷ []) $ frees_valued ! back.temporaries cs (
         keep ! (0 ∷ 1 ∷ 2 ∷ 4 ∷ 8 ∷ 7 ∷ 5 ∷ []) $ by ! (exits t zs.1.0 zs.1.1.0 zs.1.1.1.0 owed.1.0 e₁ e₂ e₃
-        (e ∙ ap (λ (n : Data ks). S (told ks n) before) (read_write (core_lives ks) κs.1 3 ks m))))))))))))))))))))))))))))))
+        (e ∙ ap (λ (n : Data ks). S (told ks n) before) (read_write (core_lives ks) κs.1 3 ks m))))))))))))))))))))))))))))))))
 
 -- ---- the law
-module _ (ks : List Kind) (S : Takes ks → B.Heap → Gives) (back : Back (length ks)) (keeps : Keeps ks S back) (f : Name) {M : Type 1} {𝓤 : Ura M} (𝓛 : Logic 𝓤) where
+module _ (ks : List Kind) (S : Takes ks → B.Heap → Gives) (back : Back (length ks)) (keeps : Keeps ks S back) (f : Callee) {M : Type 1} {𝓤 : Ura M} (𝓛 : Logic 𝓤) where
   open 𝓛 use {H}
 
   walks : (C : Calls 𝓤 H) (Λ : Loops 𝓤 H) → FmC 𝓤 H 𝓛.laws C → Triple 𝓤 (C f) (Core ks S 𝓤 𝓛)
@@ -340,7 +349,7 @@ module _ (ks : List Kind) (S : Takes ks → B.Heap → Gives) (back : Back (leng
       (clauses ks S 𝓤) (WpFn 𝓤 H 𝓣.C 𝓣.Λ (function ks f back)) (WpFn-mono 𝓤 H 𝓛.laws 𝓣 (function ks f back))
       (walks 𝓣.C 𝓣.Λ (fm_of 𝓤 H 𝓛.laws 𝓣) known)
 
-  pub lends : (𝓜 : Model 𝓤 H) (𝓡 : Running 𝓤 H 𝓜) (γ : Env) (name : Name)
+  pub lends : (𝓜 : Model 𝓤 H) (𝓡 : Running 𝓤 H 𝓜) (γ : Env) (name : Callee)
       → Closed 𝓤 H (tables 𝓤 H 𝓜 𝓡 γ).C (tables 𝓤 H 𝓜 𝓡 γ).Λ name (function ks f back) → (core : Routine) → γ f ≡ core
       → Triple 𝓤 (𝓡.run core) (Core ks S 𝓤 𝓛) → Triple 𝓤 (𝓡.run (γ name)) (Outer ks S 𝓤 𝓛)
   unfolding tables_of

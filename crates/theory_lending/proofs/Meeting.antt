@@ -1,6 +1,6 @@
 -- The contracts of the outer calls that change the registers, and of their cores, over a definition S of what the call gives.
 --     core_lives, outer_lives      how many lifetimes they have
---     signature, clauses, Outer    the outer call's, to which the record is lent.        core-signature, core-clauses, Core     the core's, which takes it by value
+--     signature, clauses, Outer    the outer call's, to which the record is lent.        core_signature, core_clauses, Core     the core's, which takes it by value
 --     ended, core_ended    each with all its lifetimes kept.        stayed     what a walk of the outer call has of its parameters at exit
 --     Keeps                S keeps the registers that aren't written back
 -- Assumes nothing.
