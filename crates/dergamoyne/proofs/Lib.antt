@@ -1,4 +1,3 @@
--- Laws for the proofs of Look, and of the calls that write back some registers or none.
+-- Laws for the proofs of Look and of Store number.
 pub mod Looking
 pub mod Keeping
-pub mod Writing

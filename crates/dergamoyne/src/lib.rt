@@ -1,4 +1,4 @@
-// The outer calls, for a host in C. Ten write to the heap: the host lends its one register record, and the call changes it in
+// The outer calls, for a host. Ten write to the heap: the host lends its one register record, and the call changes it in
 // place, over a core that takes the record by value and gives it back. Nine only look, and take the record by value.
 #![tactic(auto)]
 
@@ -35,24 +35,21 @@ pub struct LookAnswer {
 }
 
 // The release of the library, as a number: 1,000,000 · major + 1,000 · minor + patch.
-#[unsafe(no_mangle)]
-pub extern "C" fn dergamoyne_version() -> u32
+pub fn dergamoyne_version() -> u32
     ensures { result ≡ version }
 {
     8000
 }
 
 // How many bytes a register record takes in memory.
-#[unsafe(no_mangle)]
-pub extern "C" fn dergamoyne_record_size() -> u32
+pub fn dergamoyne_record_size() -> u32
     ensures { result ≡ record_size }
 {
     40
 }
 
 // Format (M, U), or refusal 1.
-#[unsafe(no_mangle)]
-pub extern "C" fn dergamoyne_format(
+pub fn dergamoyne_format(
     regs: &mut Regs,
     words: &mut [u32],
     colours: &mut [u32],
@@ -68,8 +65,7 @@ pub extern "C" fn dergamoyne_format(
 }
 
 // Read: word w of the block b, and whether it is a reference.
-#[unsafe(no_mangle)]
-pub extern "C" fn dergamoyne_read(
+pub fn dergamoyne_read(
     regs: Regs,
     words: &[u32],
     colours: &[u32],
@@ -83,8 +79,7 @@ pub extern "C" fn dergamoyne_read(
 }
 
 // Look: where in the word buffer the eight words of the block b begin, or the refusal of Read of word 0.
-#[unsafe(no_mangle)]
-pub extern "C" fn dergamoyne_look(
+pub fn dergamoyne_look(
     regs: Regs,
     words: &[u32],
     colours: &[u32],
@@ -108,8 +103,7 @@ pub extern "C" fn dergamoyne_look(
 }
 
 // Store number: word w of the block b becomes the number v. No register changes, so none is written back.
-#[unsafe(no_mangle)]
-pub extern "C" fn dergamoyne_store_number(
+pub fn dergamoyne_store_number(
     regs: &mut Regs,
     words: &mut [u32],
     colours: &mut [u32],
@@ -125,8 +119,7 @@ pub extern "C" fn dergamoyne_store_number(
 }
 
 // Store reference: word w of the block b becomes a reference to t, or the reference 0.
-#[unsafe(no_mangle)]
-pub extern "C" fn dergamoyne_store_reference(
+pub fn dergamoyne_store_reference(
     regs: &mut Regs,
     words: &mut [u32],
     colours: &mut [u32],
@@ -143,8 +136,7 @@ pub extern "C" fn dergamoyne_store_reference(
 }
 
 // Set root: the root becomes t, or none.
-#[unsafe(no_mangle)]
-pub extern "C" fn dergamoyne_set_root(
+pub fn dergamoyne_set_root(
     regs: &mut Regs,
     words: &mut [u32],
     colours: &mut [u32],
@@ -160,8 +152,7 @@ pub extern "C" fn dergamoyne_set_root(
 }
 
 // Allocate: a new block for word w of the block b, or with 0, 0 for the root. Its value is the new block.
-#[unsafe(no_mangle)]
-pub extern "C" fn dergamoyne_allocate(
+pub fn dergamoyne_allocate(
     regs: &mut Regs,
     words: &mut [u32],
     colours: &mut [u32],
@@ -178,8 +169,7 @@ pub extern "C" fn dergamoyne_allocate(
 
 // Allocate chain: n new blocks, 1 to 256, word 7 of each the reference to the next, for word w of the block b, or with 0, 0 for the
 // root. Its value is the first.
-#[unsafe(no_mangle)]
-pub extern "C" fn dergamoyne_allocate_chain(
+pub fn dergamoyne_allocate_chain(
     regs: &mut Regs,
     words: &mut [u32],
     colours: &mut [u32],
@@ -196,8 +186,7 @@ pub extern "C" fn dergamoyne_allocate_chain(
 }
 
 // Read field: field k of the object that starts at the block b, and whether it is a reference.
-#[unsafe(no_mangle)]
-pub extern "C" fn dergamoyne_read_field(
+pub fn dergamoyne_read_field(
     regs: Regs,
     words: &[u32],
     colours: &[u32],
@@ -211,8 +200,7 @@ pub extern "C" fn dergamoyne_read_field(
 }
 
 // Store field number: field k of the object that starts at the block b becomes the number v. No register changes.
-#[unsafe(no_mangle)]
-pub extern "C" fn dergamoyne_store_field_number(
+pub fn dergamoyne_store_field_number(
     regs: &mut Regs,
     words: &mut [u32],
     colours: &mut [u32],
@@ -228,8 +216,7 @@ pub extern "C" fn dergamoyne_store_field_number(
 }
 
 // Store field reference: field k of the object that starts at the block b becomes a reference to t, or the reference 0.
-#[unsafe(no_mangle)]
-pub extern "C" fn dergamoyne_store_field_reference(
+pub fn dergamoyne_store_field_reference(
     regs: &mut Regs,
     words: &mut [u32],
     colours: &mut [u32],
@@ -246,8 +233,7 @@ pub extern "C" fn dergamoyne_store_field_reference(
 }
 
 // Work: n units, n at most 65,535.
-#[unsafe(no_mangle)]
-pub extern "C" fn dergamoyne_work(
+pub fn dergamoyne_work(
     regs: &mut Regs,
     words: &mut [u32],
     colours: &mut [u32],
@@ -262,8 +248,7 @@ pub extern "C" fn dergamoyne_work(
 }
 
 // Audit: 1 for a well-formed heap, else 0. It never refuses and changes nothing.
-#[unsafe(no_mangle)]
-pub extern "C" fn dergamoyne_audit(
+pub fn dergamoyne_audit(
     regs: Regs,
     words: &[u32],
     colours: &[u32],
@@ -277,8 +262,7 @@ pub extern "C" fn dergamoyne_audit(
 
 // State: what b is, which is any number: value 1 live white, 2 doomed, 3 grey, 4 black, 5 free, 6 outside the layout. It refuses by
 // 1 and 2 alone, and changes nothing.
-#[unsafe(no_mangle)]
-pub extern "C" fn dergamoyne_state(
+pub fn dergamoyne_state(
     regs: Regs,
     words: &[u32],
     colours: &[u32],
@@ -292,8 +276,7 @@ pub extern "C" fn dergamoyne_state(
 
 // Export: the rows of the list that starts at the block start, where 0 is the empty list, and goes on by the reference in word
 // link, to the buffer out. Complete with the number of rows; or not, with the rows written before it stopped, and the reason.
-#[unsafe(no_mangle)]
-pub extern "C" fn dergamoyne_export(
+pub fn dergamoyne_export(
     regs: Regs,
     words: &[u32],
     colours: &[u32],
@@ -309,8 +292,7 @@ pub extern "C" fn dergamoyne_export(
 
 // Export of objects: the rows of the list that starts at the object start, where 0 is the empty list, and goes on by the
 // reference in field link, to the buffer out. A row is an object's first fields. The answer is as that of Export.
-#[unsafe(no_mangle)]
-pub extern "C" fn dergamoyne_export_objects(
+pub fn dergamoyne_export_objects(
     regs: Regs,
     words: &[u32],
     colours: &[u32],
@@ -329,8 +311,7 @@ pub extern "C" fn dergamoyne_export_objects(
 
 // Save: the image of the heap, written to the output out, which keeps its bytes past the image. Refused by 1; by 10 where the audit
 // turns the heap down; by 13 where the output is shorter than the image.
-#[unsafe(no_mangle)]
-pub extern "C" fn dergamoyne_save(
+pub fn dergamoyne_save(
     regs: Regs,
     words: &[u32],
     colours: &[u32],
@@ -344,8 +325,7 @@ pub extern "C" fn dergamoyne_save(
 
 // Load: the heap of an image, read into the record and the buffers, at which it doesn't look. Refused by 10 where the bytes aren't the
 // image of a heap that the audit accepts, with nothing after it; by 13 where the buffers have other lengths than the image asks for.
-#[unsafe(no_mangle)]
-pub extern "C" fn dergamoyne_load(
+pub fn dergamoyne_load(
     regs: &mut Regs,
     words: &mut [u32],
     colours: &mut [u32],
@@ -362,8 +342,7 @@ pub extern "C" fn dergamoyne_load(
 // Why: the reason why the block b is still here: 1 free, 2 doomed, 3 reachable, 4 out of reach and kept. The path of a reachable block
 // is written to path, two numbers a pair, with 0 behind it; queue and came end as 0. Refused by 1; by 10 where the audit turns the heap
 // down; by 3 where b is no block; by 13 where path has fewer than 2M numbers, or queue or came fewer than M.
-#[unsafe(no_mangle)]
-pub extern "C" fn dergamoyne_why(
+pub fn dergamoyne_why(
     regs: Regs,
     words: &[u32],
     colours: &[u32],

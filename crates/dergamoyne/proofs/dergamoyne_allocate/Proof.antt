@@ -1,0 +1,16 @@
+-- `dergamoyne::dergamoyne_allocate` meets its contract: the law of the outer calls, over `call_allocate::allocate`. Assumes nothing.
+use mathlib.Core.Path.{refl}
+use Rattle.machine.specs.Allocate.{allocate}
+use Rattle.call_allocate.proofs.allocate.Symbol as core
+use Rattle.call_allocate.proofs.allocate.Met as core_thm
+use Rattle.theory_lending.proofs.Copied.{numbers}
+use Rattle.theory_lending.proofs.Back.{all}
+use Rattle.theory_lending.proofs.Outer.{lends}
+use Rattle.dergamoyne.specs.contracts.dergamoyne_allocate.Key.{name}
+use Rattle.dergamoyne.proofs.dergamoyne_allocate.Statement.{statement}
+use Rattle.dergamoyne.proofs.dergamoyne_allocate.Code as code
+
+pub dergamoyne_allocate_spec : {M : Type 1} → statement M
+dergamoyne_allocate_spec 𝓤 𝓛 𝓜 𝓡 wired =
+    lends (numbers 2) (λ m. allocate m.0 m.1.0) (all 2) (λ m h. tt) core.name 𝓛 𝓜 𝓡 𝓡.env name (code.unfolded 𝓤 𝓛.H 𝓜 𝓡 wired)
+    (𝓡.env core.name) refl (core_thm.met 𝓤 𝓛 𝓜 𝓡 (code.calls-call_allocate::allocate 𝓡.env wired))
