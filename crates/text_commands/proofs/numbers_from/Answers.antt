@@ -1,5 +1,5 @@
 -- `text_commands::numbers_from` meets its contract: the numbers read so far, and those still to come. Assumes nothing.
-use Prim.Native.Nat.{◌+◌, ◌-◌}
+use Prim.Native.Nat.{◌+◌}
 use borrow.Author.Rules.{rules}
 use native.Mathlib.Omega.{arith}
 use Rattle.text_commands.proofs.Gathering.{found, gather_start, gather_on, gather_off, gather_end}
