@@ -6,8 +6,8 @@ use Rattle.text_numbers.proofs.whole.Goals as goal
 pub returns-then-digits-eq0 : goal.returns-then-digits-eq0
 returns-then-digits-eq0 c = simp (lt-leb 1 c.args.digits (omega (arith, c.if-digits-eq0.true)))
 
-pub returns-then-digits-gt10 : goal.returns-then-digits-gt10
-returns-then-digits-gt10 c = simp (le-leb 1 c.args.digits (omega (arith, c.if-digits-eq0.false)), lt-leb _ 10 c.if-digits-gt10.true)
+pub returns-then-digits-gt-MOST_DIGITS : goal.returns-then-digits-gt-MOST_DIGITS
+returns-then-digits-gt-MOST_DIGITS c = simp (le-leb 1 c.args.digits (omega (arith, c.if-digits-eq0.false)), lt-leb c.args.digits 10 (omega (arith, c.if-digits-gt-MOST_DIGITS.true)))
 
 pub returns : goal.returns
-returns c = simp (le-leb 1 c.args.digits (omega (arith, c.if-digits-eq0.false)), le-leb _ 10 c.if-digits-gt10.false)
+returns c = simp (le-leb 1 c.args.digits (omega (arith, c.if-digits-eq0.false)), le-leb c.args.digits 10 (omega (arith, c.if-digits-gt-MOST_DIGITS.false)))
