@@ -1,8 +1,7 @@
 // Numbers in a line of text: reading them. What a text is parted into, and which parts are numbers, is in specs/.
 #![tactic(auto)]
 
-ghost use Rattle.std.specs.Prelude.{◌≡◌, ◌&&◌, ◌≤◌, leb};
-ghost use Rattle.machine.specs.Tests.{if◌then◌else◌};
+ghost use Rattle.std.specs.Prelude.{◌≡◌, ◌&&◌, ◌≤◌, leb, if◌then◌else◌};
 ghost use Rattle.text_numbers.specs.declared.Number.TheVariants.{Whole, Broken};
 ghost use Rattle.text_numbers.specs.Numbers.{number_at};
 
