@@ -8,9 +8,9 @@
 --     export_objects b n link h out     the export
 --     export_objects_numbers b n link h out     the same, with its answer in numbers
 -- Assumes nothing.
-use Rattle.std.specs.Prelude.{ℕ, zero, suc, ◌+◌, Bool, ◌&&◌, List, [], ◌∷◌, eqb, leb, ltb}
+use Rattle.std.specs.Prelude.{ℕ, zero, suc, ◌+◌, Bool, ◌&&◌, List, [], ◌∷◌, eqb, leb, ltb, if◌then◌else◌}
 use Rattle.machine.specs.declared.ReadAnswer.{ReadAnswer}
-use Rattle.machine.specs.Tests.{if◌then◌else◌, ◌▷◌}
+use Rattle.machine.specs.Tests.{◌▷◌}
 use Rattle.machine.specs.Heap.{Heap}
 use Rattle.machine.specs.Read.{read_refused}
 use Rattle.machine.specs.Field.{read_field}

@@ -18,7 +18,7 @@ use native.Mathlib.Omega.{arith}
 use native.Mathlib.Nat.{le-div_iff_mul-le, div-mul-le_self}
 use lib.Dec.{eqb, leb}
 use borrow.Author.Tests.{le-leb, lt-leb, ne_eqb, leb-true}
-use Rattle.machine.specs.Tests.{if◌then◌else◌}
+use Rattle.std.specs.Prelude.{if◌then◌else◌}
 use Rattle.machine.proofs.Tests.{both, both_true, by_eq, by_test}
 use Rattle.machine.proofs.Rounding.{round_most}
 use Rattle.theory_promises.specs.Demand3.{cycles}

@@ -2,8 +2,7 @@
 // smaller heap is enough.
 #![tactic(auto)]
 
-ghost use Rattle.std.specs.Prelude.{◌≡◌, eqb};
-ghost use Rattle.machine.specs.Tests.{if◌then◌else◌};
+ghost use Rattle.std.specs.Prelude.{◌≡◌, eqb, if◌then◌else◌};
 ghost use Rattle.theory_promises.specs.Demand3.{cycles};
 ghost use Rattle.theory_promises.specs.Sharper.{short_cycles};
 ghost use Rattle.call_size.specs.Sizing.{enough, suffices, Least};

@@ -4,10 +4,9 @@
 --     version              the release, as a number: 1,000,000 · major + 1,000 · minor + patch
 --     record_size           how many bytes a register record takes in memory
 -- Assumes nothing.
-use Rattle.std.specs.Prelude.{ℕ, eqb}
+use Rattle.std.specs.Prelude.{ℕ, eqb, if◌then◌else◌}
 use prog.Memory.{size}
 use denote.Memory.{lone}
-use Rattle.machine.specs.Tests.{if◌then◌else◌}
 use Rattle.machine.specs.Heap.{Heap}
 use Rattle.machine.specs.Read.{read_refusal, look_at}
 use Rattle.machine.specs.contracts.Regs.{the_row}

@@ -248,12 +248,7 @@ pub fn dergamoyne_work(
 }
 
 // Audit: 1 for a well-formed heap, else 0. It never refuses and changes nothing.
-pub fn dergamoyne_audit(
-    regs: Regs,
-    words: &[u32],
-    colours: &[u32],
-    bytes: &[u8],
-) -> Answer
+pub fn dergamoyne_audit(regs: Regs, words: &[u32], colours: &[u32], bytes: &[u8]) -> Answer
     ensures answered { (record { answer = result; heap = heap regs words.now colours.now bytes.now }) ≡ audit (heap regs words.now colours.now bytes.now) }
     ensures meaning { (result.value ≡ 1) ↔ WellFormed (heap regs words.now colours.now bytes.now) }
 {
@@ -262,13 +257,7 @@ pub fn dergamoyne_audit(
 
 // State: what b is, which is any number: value 1 live white, 2 doomed, 3 grey, 4 black, 5 free, 6 outside the layout. It refuses by
 // 1 and 2 alone, and changes nothing.
-pub fn dergamoyne_state(
-    regs: Regs,
-    words: &[u32],
-    colours: &[u32],
-    bytes: &[u8],
-    b: u32,
-) -> Answer
+pub fn dergamoyne_state(regs: Regs, words: &[u32], colours: &[u32], bytes: &[u8], b: u32) -> Answer
     ensures { (record { answer = result; heap = heap regs words.now colours.now bytes.now }) ≡ tell_state b (heap regs words.now colours.now bytes.now) }
 {
     call_state::state(regs, words, colours, bytes, b)

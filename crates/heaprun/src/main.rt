@@ -1,6 +1,6 @@
 // Does the lines of standard input, one call a line, and prints what each answers.
 #![tactic(auto)]
 
-fn main() {
-    text_run::run();
+fn main(rt: HostRuntime) {
+    text_run::run(&rt);
 }

@@ -50,7 +50,8 @@ fn asked(k: u32) -> Command {
 }
 
 // A call, and what it answered is put.
-fn call(
+fn call<R: Print + Eprint>(
+    rt: &R,
     d: Done,
     words: &mut [u32; 131072],
     colours: &mut [u32; 16384],
@@ -59,13 +60,14 @@ fn call(
     c: Command,
 ) -> Done {
     let s = text_lines::perform(d.regs, words, colours, bytes, c);
-    let o = text_output::put_three(out, d.output, s.first, s.second, s.third);
+    let o = text_output::put_three(rt, out, d.output, s.first, s.second, s.third);
     let r = s.regs;
     Done { regs: r, output: o }
 }
 
 // The calls from one of the table up to another.
-fn calls(
+fn calls<R: Print + Eprint>(
+    rt: &R,
     start: Done,
     words: &mut [u32; 131072],
     colours: &mut [u32; 16384],
@@ -77,7 +79,7 @@ fn calls(
     let mut d = start;
     let mut k = from;
     while k < to {
-        d = call(d, words, colours, bytes, out, asked(k));
+        d = call(rt, d, words, colours, bytes, out, asked(k));
         k += 1;
     }
     d
@@ -101,7 +103,8 @@ fn chain(
 }
 
 // Case 11 on the greatest heap, and a heap all in use.
-fn greatest(
+fn greatest<R: Print + Eprint>(
+    rt: &R,
     words: &mut [u32; 131072],
     colours: &mut [u32; 16384],
     bytes: &mut [u8; 16384],
@@ -112,20 +115,20 @@ fn greatest(
         regs: zeroes(),
         output: o,
     };
-    let d = calls(fresh, words, colours, bytes, out, 0, 6);
+    let d = calls(rt, fresh, words, colours, bytes, out, 0, 6);
     let r = chain(d.regs, words, colours, bytes);
     let p = d.output;
     let full = Done { regs: r, output: p };
-    let e = calls(full, words, colours, bytes, out, 6, 13);
+    let e = calls(rt, full, words, colours, bytes, out, 6, 13);
     e.output
 }
 
 // The same on memory of its own.
-fn as_many_as_there_may_be(out: &mut [u8; 65536], o: Output) -> Output {
+fn as_many_as_there_may_be<R: Print + Eprint>(rt: &R, out: &mut [u8; 65536], o: Output) -> Output {
     let mut words = [0u32; 131072];
     let mut colours = [0u32; 16384];
     let mut bytes = [0u8; 16384];
-    greatest(&mut words, &mut colours, &mut bytes, out, o)
+    greatest(rt, &mut words, &mut colours, &mut bytes, out, o)
 }
 
 // Case 11 where M is out of its range: on buffers that fit 16,385 blocks, M of 0 and of 16,385 is refused.
@@ -138,32 +141,32 @@ fn refused(m: u32) -> Answer {
 }
 
 // Puts what a call answered.
-fn show(out: &mut [u8; 65536], o: Output, a: Answer) -> Output {
-    text_output::put_three(out, o, a.refusal, a.value, a.units)
+fn show<R: Print + Eprint>(rt: &R, out: &mut [u8; 65536], o: Output, a: Answer) -> Output {
+    text_output::put_three(rt, out, o, a.refusal, a.value, a.units)
 }
 
 // Puts 1 for yes and 0 for no, as a line.
-fn put_yes(out: &mut [u8; 65536], o: Output, yes: bool) -> Output {
+fn put_yes<R: Print + Eprint>(rt: &R, out: &mut [u8; 65536], o: Output, yes: bool) -> Output {
     if yes {
-        return text_output::put(out, o, 1, 10);
+        return text_output::put(rt, out, o, 1, 10);
     }
-    text_output::put(out, o, 0, 10)
+    text_output::put(rt, out, o, 0, 10)
 }
 
 // Cases 12 and 13.
-fn sizes(out: &mut [u8; 65536], o: Output) -> Output {
-    let p = text_output::put(out, o, call_size::most_in_a_cycle(1024, 10), 10);
-    let q = put_yes(out, p, call_size::has_room(1024, 10, 614));
-    let r = put_yes(out, q, call_size::has_room(1024, 10, 615));
-    let s = text_output::put(out, r, call_size::most_in_a_cycle(3, 8), 10);
-    put_yes(out, s, call_size::has_room(3, 8, 1))
+fn sizes<R: Print + Eprint>(rt: &R, out: &mut [u8; 65536], o: Output) -> Output {
+    let p = text_output::put(rt, out, o, call_size::most_in_a_cycle(1024, 10), 10);
+    let q = put_yes(rt, out, p, call_size::has_room(1024, 10, 614));
+    let r = put_yes(rt, out, q, call_size::has_room(1024, 10, 615));
+    let s = text_output::put(rt, out, r, call_size::most_in_a_cycle(3, 8), 10);
+    put_yes(rt, out, s, call_size::has_room(3, 8, 1))
 }
 
-fn main() {
-    let mut out = io::large_buffer();
-    let a = show(&mut out, text_output::empty(), refused(0));
-    let b = show(&mut out, a, refused(16385));
-    let c = as_many_as_there_may_be(&mut out, b);
-    let d = sizes(&mut out, c);
-    text_output::flush(&out, d);
+fn main(rt: HostRuntime) {
+    let mut out = [0u8; 65536];
+    let a = show(&rt, &mut out, text_output::empty(), refused(0));
+    let b = show(&rt, &mut out, a, refused(16385));
+    let c = as_many_as_there_may_be(&rt, &mut out, b);
+    let d = sizes(&rt, &mut out, c);
+    text_output::flush(&rt, &out, d);
 }

@@ -1,6 +1,6 @@
 // The listing of document 01, as `heaprun` does it.
 #![tactic(auto)]
 
-fn main() {
-    text_run::run();
+fn main(rt: HostRuntime) {
+    text_run::run(&rt);
 }

@@ -16,7 +16,8 @@ use lib.Dec.{leb, eqb}
 use lib.ListN.{get_or}
 use borrow.Author.Tests.{eq-eqb, ne_eqb, le-leb, lt-leb, leb-true}
 use Rattle.machine.specs.declared.Regs.{Regs}
-use Rattle.machine.specs.Tests.{if◌then◌else◌, ◌▷◌}
+use Rattle.std.specs.Prelude.{if◌then◌else◌}
+use Rattle.machine.specs.Tests.{◌▷◌}
 use Rattle.machine.specs.Heap.{Heap}
 use Rattle.machine.specs.Entry.{entry, holder_place}
 use Rattle.machine.specs.Answers.{Given, refuse}

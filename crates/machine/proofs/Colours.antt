@@ -18,7 +18,7 @@ use lib.ListN.{length, length-set}
 use borrow.Author.Tests.{le-leb, lt-leb, eq-eqb, ne_eqb, eqb-true}
 use Rattle.machine.specs.declared.Colour.{Colour}
 use Rattle.machine.specs.declared.Colour.TheVariants.{White, Grey, Black, Free, Outside}
-use Rattle.machine.specs.Tests.{if◌then◌else◌}
+use Rattle.std.specs.Prelude.{if◌then◌else◌}
 use Rattle.machine.specs.Registers.{marking}
 use Rattle.machine.specs.Block.{is_block}
 use Rattle.machine.specs.Lists.{count_from, walk}

@@ -19,7 +19,7 @@ use native.Mathlib.Omega.{arith}
 use lib.Dec.{eqb}
 use lib.ListN.{length}
 use borrow.Author.Tests.{eqb-true, eq-eqb, ne_eqb}
-use Rattle.machine.specs.Tests.{if◌then◌else◌}
+use Rattle.std.specs.Prelude.{if◌then◌else◌}
 use Rattle.machine.specs.Lists.{all_from, count_from}
 use Rattle.machine.proofs.Tests.{both_true, both, either_true, by_test, by_eq, clash}
 use Rattle.machine.specs.Lists.{Distinct, empty, more}

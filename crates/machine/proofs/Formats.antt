@@ -13,7 +13,7 @@ use lib.Dec.{eqb, leb}
 use lib.ListN.{length, take, replicate, length-append}
 use borrow.Author.Tests.{eqb-true, leb-true}
 use lib.Seq.{take_all, take_at, length-take-le}
-use Rattle.machine.specs.Tests.{if◌then◌else◌}
+use Rattle.std.specs.Prelude.{if◌then◌else◌}
 use Rattle.machine.specs.declared.Regs.{Regs}
 use Rattle.machine.specs.Registers.{fresh_regs}
 use Rattle.machine.specs.Block.{base, free_words}

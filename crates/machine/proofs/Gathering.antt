@@ -10,7 +10,8 @@ use mathlib.Core.Bool.{Bool, true, false, ◌&&◌}
 use native.Mathlib.Omega.{arith}
 use lib.Dec.{leb, eqb}
 use borrow.Author.Tests.{eq-eqb, ne_eqb, le-leb, lt-leb, leb-true}
-use Rattle.machine.specs.Tests.{if◌then◌else◌, ◌▷◌}
+use Rattle.std.specs.Prelude.{if◌then◌else◌}
+use Rattle.machine.specs.Tests.{◌▷◌}
 use Rattle.machine.specs.Heap.{Heap}
 use Rattle.machine.specs.State.{holder_refusal}
 use Rattle.machine.specs.Several.{first_frees, list_walks, distinct, head_refusal, several_refusal, take_several_refusal}

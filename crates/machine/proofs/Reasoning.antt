@@ -20,7 +20,8 @@ use Rattle.machine.specs.declared.Reason.{Reason}
 use Rattle.machine.specs.declared.Reason.TheVariants.{Reachable, Kept}
 use Rattle.machine.specs.declared.WhyAnswer.{WhyAnswer}
 use Rattle.machine.specs.declared.WhyAnswer.TheVariants.{Refused, Told}
-use Rattle.machine.specs.Tests.{if◌then◌else◌, ◌▷◌}
+use Rattle.std.specs.Prelude.{if◌then◌else◌}
+use Rattle.machine.specs.Tests.{◌▷◌}
 use Rattle.machine.specs.Block.{is_block}
 use Rattle.machine.specs.Heap.{Heap, colouring}
 use Rattle.machine.specs.State.{state_of, is_live}

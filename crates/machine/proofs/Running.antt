@@ -15,7 +15,7 @@ use native.Mathlib.Omega.{arith}
 use borrow.Author.Tests.{eq-eqb, ne_eqb}
 use Rattle.machine.specs.declared.Regs.{Regs}
 use Rattle.machine.specs.declared.Step.{Step}
-use Rattle.machine.specs.Tests.{if◌then◌else◌}
+use Rattle.std.specs.Prelude.{if◌then◌else◌}
 use Rattle.machine.specs.Registers.{idle, marking, sweeping}
 use Rattle.machine.specs.Block.{is_block}
 use Rattle.machine.specs.Colouring.{Colouring, coloured, white, colour_word, word_in, first_grey}

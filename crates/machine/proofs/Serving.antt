@@ -22,7 +22,7 @@ use lib.Dec.{eqb}
 use lib.ListN.{get_or, set, length, length-set}
 use lib.Seq.{get_or-set_other}
 use borrow.Author.Tests.{eq-eqb, ne_eqb}
-use Rattle.machine.specs.Tests.{if◌then◌else◌}
+use Rattle.std.specs.Prelude.{if◌then◌else◌}
 use Rattle.machine.specs.Block.{place}
 use Rattle.machine.specs.Heap.{Heap}
 use Rattle.machine.specs.WellFormed.{Block}

@@ -17,7 +17,8 @@ use native.Mathlib.Omega.{arith}
 use lib.Dec.{eqb}
 use lib.ListN.{length, set}
 use borrow.Author.Tests.{eq-eqb, ne_eqb}
-use Rattle.machine.specs.Tests.{if◌then◌else◌, ◌▷◌}
+use Rattle.std.specs.Prelude.{if◌then◌else◌}
+use Rattle.machine.specs.Tests.{◌▷◌}
 use Rattle.machine.specs.Registers.{marking, with_grey, with_root}
 use Rattle.machine.specs.Block.{place, set_bit, clear_bit}
 use Rattle.machine.specs.Colouring.{Colouring, grey_white}

@@ -5,9 +5,9 @@
 --     held b w x h         the reference to x stored: in word w of b, or in the root where b is 0
 --     allocate b w h       the call
 -- Assumes nothing.
-use Rattle.std.specs.Prelude.{ℕ, ◌-◌, ◌*◌, max, Bool, ◌&&◌, eqb, set}
+use Rattle.std.specs.Prelude.{ℕ, ◌-◌, ◌*◌, max, Bool, ◌&&◌, eqb, set, if◌then◌else◌}
 use Rattle.machine.specs.declared.Regs.{Regs}
-use Rattle.machine.specs.Tests.{if◌then◌else◌, ◌▷◌}
+use Rattle.machine.specs.Tests.{◌▷◌}
 use Rattle.machine.specs.Rounding.{rounded_up}
 use Rattle.machine.specs.Registers.{with_free, with_count, with_root, raised}
 use Rattle.machine.specs.Block.{place, word_of}

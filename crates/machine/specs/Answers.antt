@@ -7,11 +7,10 @@
 -- "Each answer, Look's apart, is a refusal number or 0, a value (0 if none; the new block for Allocate), and the units done."
 -- "A refusal has value 0 and changes nothing"
 -- Assumes nothing.
-use Rattle.std.specs.Prelude.{ℕ, List, eqb}
+use Rattle.std.specs.Prelude.{ℕ, List, eqb, if◌then◌else◌}
 use Rattle.machine.specs.declared.Answer.{Answer}
 use Rattle.machine.specs.declared.ReadAnswer.{ReadAnswer}
 use Rattle.machine.specs.declared.Outcome.{Outcome}
-use Rattle.machine.specs.Tests.{if◌then◌else◌}
 use Rattle.machine.specs.Heap.{Heap, heap}
 
 pub record Given : Type 0 where

@@ -11,8 +11,7 @@
 --     free_words link        the eight words of a free block
 --     references part byte  the list of the references that eight words hold, in the order of the words
 -- Assumes nothing.
-use Rattle.std.specs.Prelude.{ℕ, zero, suc, ◌+◌, ◌-◌, ◌*◌, ◌/◌, ◌%◌, ◌^◌, Bool, ◌&&◌, List, [], ◌∷◌, ◌++◌, leb, eqb, get_or, set, take, drop, replicate}
-use Rattle.machine.specs.Tests.{if◌then◌else◌}
+use Rattle.std.specs.Prelude.{ℕ, zero, suc, ◌+◌, ◌-◌, ◌*◌, ◌/◌, ◌%◌, ◌^◌, Bool, ◌&&◌, List, [], ◌∷◌, ◌++◌, leb, eqb, get_or, set, take, drop, replicate, if◌then◌else◌}
 
 -- "Block numbers run from 2 to M + 1, because 0 means no block and 1 ends the grey list."
 unfoldable pub is_block : ℕ → ℕ → Bool

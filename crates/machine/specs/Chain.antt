@@ -4,8 +4,8 @@
 --     chain_length n        refusal 3 for a chain that isn't 1 to 256 blocks long
 --     allocate_chain b w n h     the call
 -- Assumes nothing.
-use Rattle.std.specs.Prelude.{ℕ, ◌-◌, ◌*◌, ◌&&◌, [], ◌∷◌, leb}
-use Rattle.machine.specs.Tests.{if◌then◌else◌, ◌▷◌}
+use Rattle.std.specs.Prelude.{ℕ, ◌-◌, ◌*◌, ◌&&◌, [], ◌∷◌, leb, if◌then◌else◌}
+use Rattle.machine.specs.Tests.{◌▷◌}
 use Rattle.machine.specs.Heap.{Heap}
 use Rattle.machine.specs.Entry.{entry, holder_place}
 use Rattle.machine.specs.Answers.{Given, unless}

@@ -20,10 +20,9 @@
 --     greys_pass k             the audit's test of that, which computes
 -- What holds of these, whatever the layout, is the record `LayoutLaws` (Layout.antt).
 -- Assumes nothing.
-use Rattle.std.specs.Prelude.{ℕ, ◌+◌, ◌≡◌, Bool, true, false, ◌&&◌, ◌||◌, List, [], ◌∷◌, leb, eqb, get_or, set, length, replicate}
+use Rattle.std.specs.Prelude.{ℕ, ◌+◌, ◌≡◌, Bool, true, false, ◌&&◌, ◌||◌, List, [], ◌∷◌, leb, eqb, get_or, set, length, replicate, if◌then◌else◌}
 use Rattle.machine.specs.declared.Colour.{Colour}
 use Rattle.machine.specs.declared.Colour.TheVariants.{White, Grey, Black, Free, Outside}
-use Rattle.machine.specs.Tests.{if◌then◌else◌}
 use Rattle.machine.specs.Registers.{marking}
 use Rattle.machine.specs.Block.{is_block, index}
 use Rattle.machine.specs.Lists.{count_from, walk, Exactly}

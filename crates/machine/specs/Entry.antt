@@ -7,9 +7,9 @@
 --     holder_place m b w    refusal 3 for Allocate, which also takes 0, 0 for the root
 --     target_place m t      refusal 4
 -- Assumes nothing.
-use Rattle.std.specs.Prelude.{ℕ, ◌+◌, ◌*◌, Bool, ◌&&◌, ◌||◌, leb, eqb, length}
+use Rattle.std.specs.Prelude.{ℕ, ◌+◌, ◌*◌, Bool, ◌&&◌, ◌||◌, leb, eqb, length, if◌then◌else◌}
 use Rattle.machine.specs.declared.Regs.{Regs}
-use Rattle.machine.specs.Tests.{if◌then◌else◌, ◌▷◌}
+use Rattle.machine.specs.Tests.{◌▷◌}
 use Rattle.machine.specs.Registers.{sweeping, sweep_end}
 use Rattle.machine.specs.Block.{is_block}
 use Rattle.machine.specs.Colouring.{colours_fit, head_legal}

@@ -5,8 +5,8 @@
 --     field_refusal b k h   the first refusal of Read field, in the order tested, or 0
 --     read_field b k h, store_field_number b k v h, store_field_reference b k t h     the calls
 -- Assumes nothing.
-use Rattle.std.specs.Prelude.{ℕ, zero, suc, ◌/◌, ◌%◌, ◌&&◌, not, eqb, leb}
-use Rattle.machine.specs.Tests.{if◌then◌else◌, ◌▷◌}
+use Rattle.std.specs.Prelude.{ℕ, zero, suc, ◌/◌, ◌%◌, ◌&&◌, not, eqb, leb, if◌then◌else◌}
+use Rattle.machine.specs.Tests.{◌▷◌}
 use Rattle.machine.specs.Block.{is_block, word_of, byte_of, bit}
 use Rattle.machine.specs.Heap.{Heap}
 use Rattle.machine.specs.Entry.{entry, target_place}

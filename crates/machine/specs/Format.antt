@@ -3,8 +3,7 @@
 --     formatted m u        the fresh heap of m blocks with pace u
 --     format m u h         the call
 -- Assumes nothing.
-use Rattle.std.specs.Prelude.{ℕ, zero, suc, ◌+◌, List, [], ◌++◌, eqb, length, replicate}
-use Rattle.machine.specs.Tests.{if◌then◌else◌}
+use Rattle.std.specs.Prelude.{ℕ, zero, suc, ◌+◌, List, [], ◌++◌, eqb, length, replicate, if◌then◌else◌}
 use Rattle.machine.specs.Registers.{fresh_regs}
 use Rattle.machine.specs.Block.{free_words}
 use Rattle.machine.specs.Colouring.{fresh_colours}

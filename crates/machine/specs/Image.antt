@@ -14,9 +14,8 @@
 --     is_image i                they are the image of a heap that the audit accepts, with nothing after it
 --     Below m xs, InRange h    numbers below m; a heap whose numbers are 32-bit numbers and bytes, as in a host's memory
 -- Assumes nothing.
-use Rattle.std.specs.Prelude.{ℕ, zero, suc, ◌+◌, ◌*◌, ◌/◌, ◌%◌, ◌^◌, ◌<◌, Bool, true, false, ◌&&◌, ◌||◌, List, [], ◌∷◌, ◌++◌, eqb, get_or, length, take, drop}
+use Rattle.std.specs.Prelude.{ℕ, zero, suc, ◌+◌, ◌*◌, ◌/◌, ◌%◌, ◌^◌, ◌<◌, Bool, true, false, ◌&&◌, ◌||◌, List, [], ◌∷◌, ◌++◌, eqb, get_or, length, take, drop, if◌then◌else◌}
 use Rattle.machine.specs.declared.Regs.{Regs}
-use Rattle.machine.specs.Tests.{if◌then◌else◌}
 use Rattle.machine.specs.Heap.{Heap, heap}
 use Rattle.machine.specs.Audit.{passes}
 

@@ -5,9 +5,8 @@
 --     Distinct l           no number stands twice in l
 --     Exactly P next end a the list from a on ends, and has exactly the blocks of which P holds
 -- Assumes nothing.
-use Rattle.std.specs.Prelude.{ℕ, zero, suc, ◌+◌, ◌≡◌, ◌↔◌, ◌≢◌, Bool, true, ◌&&◌, eqb}
+use Rattle.std.specs.Prelude.{ℕ, zero, suc, ◌+◌, ◌≡◌, ◌↔◌, ◌≢◌, Bool, true, ◌&&◌, eqb, if◌then◌else◌}
 use mathlib.Core.List.{List, [], ◌∷◌, Memᴰ}
-use Rattle.machine.specs.Tests.{if◌then◌else◌}
 
 unfoldable pub all_from : (ℕ → Bool) → ℕ → ℕ → Bool
 all_from p zero b = true

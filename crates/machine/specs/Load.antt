@@ -3,8 +3,8 @@
 --     load_refusal i h      the first refusal, in the order tested, or 0
 --     load i h             the call; of h it looks at the buffers' lengths alone
 -- Assumes nothing.
-use Rattle.std.specs.Prelude.{ℕ, Bool, ◌&&◌, List, eqb, length}
-use Rattle.machine.specs.Tests.{if◌then◌else◌, ◌▷◌}
+use Rattle.std.specs.Prelude.{ℕ, Bool, ◌&&◌, List, eqb, length, if◌then◌else◌}
+use Rattle.machine.specs.Tests.{◌▷◌}
 use Rattle.machine.specs.Heap.{Heap}
 use Rattle.machine.specs.Answers.{Given, unless, done}
 use Rattle.machine.specs.Image.{decode, is_image}

@@ -6,7 +6,7 @@
 --     unit h               one unit: every test before the first write
 --     ended r o ws cs bs   what an answered Progress means, with the registers before and the buffers afterwards
 -- Assumes nothing.
-use Rattle.std.specs.Prelude.{ℕ, ◌+◌, Bool, true, false, ◌&&◌, ◌||◌, List, [], ◌∷◌, eqb}
+use Rattle.std.specs.Prelude.{ℕ, ◌+◌, Bool, true, false, ◌&&◌, ◌||◌, List, [], ◌∷◌, eqb, if◌then◌else◌}
 use Rattle.machine.specs.declared.Regs.{Regs}
 use Rattle.machine.specs.declared.Colour.{Colour}
 use Rattle.machine.specs.declared.Colour.TheVariants.{White, Grey, Black, Free, Outside}
@@ -14,7 +14,6 @@ use Rattle.machine.specs.declared.Step.{Step}
 use Rattle.machine.specs.declared.Step.TheVariants.{Begin, Mark, Turn, Reclaim, Whiten, Pass, Damage}
 use Rattle.machine.specs.declared.Progress.{Progress}
 use Rattle.machine.specs.declared.Progress.TheVariants.{Done, Damaged}
-use Rattle.machine.specs.Tests.{if◌then◌else◌}
 use Rattle.machine.specs.Registers.{idle, marking, sweeping, with_phase, with_free, with_count, with_position, with_cycle, next_cycle, sweep_end}
 use Rattle.machine.specs.Block.{is_block, with_eight, free_words, clear_byte}
 use Rattle.machine.specs.Colouring.{Colouring, white, colour, word_in, painted, to_grey, to_black, first_grey, grey_all, is_allocated}

@@ -5,9 +5,9 @@
 --     look_at b h           where in the word buffer that part begins
 --     moved p w            the pointer that is w words further on than p
 -- Assumes nothing.
-use Rattle.std.specs.Prelude.{ℕ, ◌+◌, ◌*◌, List, [], eqb}
+use Rattle.std.specs.Prelude.{ℕ, ◌+◌, ◌*◌, List, [], eqb, if◌then◌else◌}
 use Rattle.machine.specs.declared.ReadAnswer.{ReadAnswer}
-use Rattle.machine.specs.Tests.{if◌then◌else◌, ◌▷◌}
+use Rattle.machine.specs.Tests.{◌▷◌}
 use Rattle.machine.specs.Block.{word_of, byte_of, bit, base, eight_words}
 use Rattle.machine.specs.Heap.{Heap}
 use Rattle.machine.specs.State.{holder_refusal}

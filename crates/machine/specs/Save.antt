@@ -3,9 +3,9 @@
 --     save_refusal n h      the first refusal, in the order tested, or 0; n is the output's length
 --     save out h           the call
 -- Assumes nothing.
-use Rattle.std.specs.Prelude.{ℕ, List, ◌++◌, eqb, leb, length, drop}
+use Rattle.std.specs.Prelude.{ℕ, List, ◌++◌, eqb, leb, length, drop, if◌then◌else◌}
 use Rattle.machine.specs.declared.Answer.{Answer}
-use Rattle.machine.specs.Tests.{if◌then◌else◌, ◌▷◌}
+use Rattle.machine.specs.Tests.{◌▷◌}
 use Rattle.machine.specs.Heap.{Heap}
 use Rattle.machine.specs.Entry.{heap_fits}
 use Rattle.machine.specs.Audit.{passes}

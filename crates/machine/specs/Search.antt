@@ -12,8 +12,7 @@
 --     path_to m came x      the path to x, from the root on, as `came` tells it
 --     path_numbers hs       the path as numbers, two a pair
 -- Assumes nothing.
-use Rattle.std.specs.Prelude.{ℕ, zero, suc, ◌+◌, ◌*◌, ◌/◌, ◌%◌, ◌&&◌, List, [], ◌∷◌, ◌++◌, eqb, leb, ltb, get_or, set, length, replicate}
-use Rattle.machine.specs.Tests.{if◌then◌else◌}
+use Rattle.std.specs.Prelude.{ℕ, zero, suc, ◌+◌, ◌*◌, ◌/◌, ◌%◌, ◌&&◌, List, [], ◌∷◌, ◌++◌, eqb, leb, ltb, get_or, set, length, replicate, if◌then◌else◌}
 use Rattle.machine.specs.Block.{is_block, index, eight_words, byte_of, bit}
 use Rattle.machine.specs.Heap.{Heap}
 

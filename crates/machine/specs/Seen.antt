@@ -5,12 +5,11 @@
 --     unharmed s               it is 0 or an allocated block
 --     Named m bs               each of bs is 0 or a block
 -- Assumes nothing.
-use Rattle.std.specs.Prelude.{ℕ, ◌≢◌, Bool, true, false, List, [], ◌∷◌, eqb}
+use Rattle.std.specs.Prelude.{ℕ, ◌≢◌, Bool, true, false, List, [], ◌∷◌, eqb, if◌then◌else◌}
 use Rattle.machine.specs.declared.Colour.{Colour}
 use Rattle.machine.specs.declared.Colour.TheVariants.{White, Grey, Black, Free, Outside}
 use Rattle.machine.specs.declared.Seen.{Seen}
 use Rattle.machine.specs.declared.Seen.TheVariants.{Settled, ToGrey, Damaged}
-use Rattle.machine.specs.Tests.{if◌then◌else◌}
 use Rattle.machine.specs.Colouring.{Colouring, colour_in}
 use Rattle.machine.specs.WellFormed.{Block}
 

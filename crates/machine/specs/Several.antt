@@ -10,8 +10,8 @@
 --     several_taken f n b w e   what the taking of n blocks gives once the units are done
 -- All n are taken or none: every test stands before the first block is taken.
 -- Assumes nothing.
-use Rattle.std.specs.Prelude.{ℕ, zero, suc, ◌+◌, Bool, true, false, ◌&&◌, ◌||◌, not, List, [], ◌∷◌, eqb, leb, get_or}
-use Rattle.machine.specs.Tests.{if◌then◌else◌, ◌▷◌}
+use Rattle.std.specs.Prelude.{ℕ, zero, suc, ◌+◌, Bool, true, false, ◌&&◌, ◌||◌, not, List, [], ◌∷◌, eqb, leb, get_or, if◌then◌else◌}
+use Rattle.machine.specs.Tests.{◌▷◌}
 use Rattle.machine.specs.Block.{word_of}
 use Rattle.machine.specs.Colouring.{is_free}
 use Rattle.machine.specs.Heap.{Heap, colouring}

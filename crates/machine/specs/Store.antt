@@ -3,8 +3,8 @@
 --     put_number, put_reference     word w of b written, with its bit
 --     store_number b w v h, store_reference b w t h, set_root t h     the calls
 -- Assumes nothing.
-use Rattle.std.specs.Prelude.{ℕ, eqb, set}
-use Rattle.machine.specs.Tests.{if◌then◌else◌, ◌▷◌}
+use Rattle.std.specs.Prelude.{ℕ, eqb, set, if◌then◌else◌}
+use Rattle.machine.specs.Tests.{◌▷◌}
 use Rattle.machine.specs.Registers.{marking, with_root}
 use Rattle.machine.specs.Block.{place, set_bit, clear_bit}
 use Rattle.machine.specs.Colouring.{grey_white}

@@ -3,9 +3,8 @@
 --     run n i h            n more units after i, stopping at the first damage
 --     ran o ws cs bs       what an answered Ran means, with the buffers afterwards
 -- Assumes nothing.
-use Rattle.std.specs.Prelude.{ℕ, zero, suc, ◌+◌, List}
+use Rattle.std.specs.Prelude.{ℕ, zero, suc, ◌+◌, List, if◌then◌else◌}
 use Rattle.machine.specs.declared.Ran.{Ran}
-use Rattle.machine.specs.Tests.{if◌then◌else◌}
 use Rattle.machine.specs.Heap.{Heap, heap}
 use Rattle.machine.specs.OneUnit.{unit}
 

@@ -6,7 +6,7 @@
 --     why path queue came b h     the call
 --     why_numbers a         the answer in numbers, for a caller that takes no enum
 -- Assumes nothing.
-use Rattle.std.specs.Prelude.{ℕ, ◌*◌, ◌-◌, ◌&&◌, List, [], ◌++◌, eqb, leb, length, replicate}
+use Rattle.std.specs.Prelude.{ℕ, ◌*◌, ◌-◌, ◌&&◌, List, [], ◌++◌, eqb, leb, length, replicate, if◌then◌else◌}
 use Rattle.machine.specs.declared.Colour.{Colour}
 use Rattle.machine.specs.declared.Colour.TheVariants as colours
 use Rattle.machine.specs.declared.State.{State}
@@ -17,7 +17,7 @@ use Rattle.machine.specs.declared.Why.{Why}
 use Rattle.machine.specs.declared.WhyAnswer.{WhyAnswer}
 use Rattle.machine.specs.declared.WhyAnswer.TheVariants.{Refused, Told}
 use Rattle.machine.specs.declared.WhyNumbers.{WhyNumbers}
-use Rattle.machine.specs.Tests.{if◌then◌else◌, ◌▷◌}
+use Rattle.machine.specs.Tests.{◌▷◌}
 use Rattle.machine.specs.Block.{is_block}
 use Rattle.machine.specs.Heap.{Heap}
 use Rattle.machine.specs.State.{state_of, is_live}

@@ -1,8 +1,8 @@
 -- Work.
 --     work n h             the call
 -- Assumes nothing.
-use Rattle.std.specs.Prelude.{ℕ, leb}
-use Rattle.machine.specs.Tests.{if◌then◌else◌, ◌▷◌}
+use Rattle.std.specs.Prelude.{ℕ, leb, if◌then◌else◌}
+use Rattle.machine.specs.Tests.{◌▷◌}
 use Rattle.machine.specs.Heap.{Heap}
 use Rattle.machine.specs.Entry.{entry}
 use Rattle.machine.specs.Answers.{Given, answering, unless}

@@ -19,7 +19,7 @@ use lib.Dec.{eqb}
 use lib.ListN.{get_or, set, length, length-set}
 use lib.Seq.{get_or-set_same, get_or-set_other, set-set, set_comm}
 use borrow.Author.Tests.{eq-eqb, ne_eqb}
-use Rattle.machine.specs.Tests.{if◌then◌else◌}
+use Rattle.std.specs.Prelude.{if◌then◌else◌}
 use Rattle.machine.specs.Block.{place, index, byte_of, with_bit, set_bit}
 use Rattle.machine.specs.Heap.{Heap, heap}
 use Rattle.machine.specs.WellFormed.{Block}

@@ -1,6 +1,5 @@
 // The audit's part on the colour layout: the grey list has exactly the grey blocks.
-ghost use Rattle.std.specs.Prelude.{◌≡◌, ℕ, ◌≤◌};
-ghost use Rattle.machine.specs.Tests.{if◌then◌else◌};
+ghost use Rattle.std.specs.Prelude.{◌≡◌, ℕ, ◌≤◌, if◌then◌else◌};
 ghost use Rattle.machine.specs.Lists.{count_from, walk};
 ghost use Rattle.machine.specs.Colouring.{coloured, word_in, grey_colour, is_grey, CellsFit, greys_pass};
 

@@ -4,12 +4,11 @@
 
 pub mod layout; // layout.rt: what the audit asks of the colours and of the grey list
 
-ghost use Rattle.std.specs.Prelude.{◌≡◌, ◌≢◌, ◌+◌, ◌%◌, ◌≤◌, length, ℕ};
+ghost use Rattle.std.specs.Prelude.{◌≡◌, ◌≢◌, ◌+◌, ◌%◌, ◌≤◌, length, ℕ, if◌then◌else◌};
 ghost use Rattle.machine.specs.WellFormed.{Block};
 ghost use Rattle.machine.specs.Block.{is_block};
 ghost use Rattle.machine.specs.Colouring.{coloured, colour, colour_word, paint, colour_in, repaint, to_grey, to_black, grey_white, free_colour, is_free, CellsFit, fresh_colours};
 ghost use Rattle.machine.specs.Seen.{seen};
-ghost use Rattle.machine.specs.Tests.{if◌then◌else◌};
 
 use machine::{Colour, Seen};
 

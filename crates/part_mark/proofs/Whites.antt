@@ -18,7 +18,7 @@ use lib.Dec.{eqb}
 use lib.ListN.{length, get_or}
 use Rattle.machine.specs.declared.Seen.{Seen}
 use Rattle.machine.specs.declared.Seen.TheVariants.{Settled, ToGrey, Damaged}
-use Rattle.machine.specs.Tests.{if◌then◌else◌}
+use Rattle.std.specs.Prelude.{if◌then◌else◌}
 use Rattle.machine.specs.WellFormed.{Block}
 use Rattle.machine.specs.Block.{references}
 use Rattle.machine.specs.Colouring.{Colouring, to_black, first_grey, grey_white, grey_all}

@@ -4,10 +4,9 @@
 --     whites k part byte                the byte of the references that name white blocks
 --     looked s white                    what is answered: that byte where all are sound
 -- Assumes nothing.
-use Rattle.std.specs.Prelude.{ℕ, zero, suc, ◌+◌, ◌*◌, ◌/◌, ◌%◌, Bool, true, false, List, eqb, get_or}
+use Rattle.std.specs.Prelude.{ℕ, zero, suc, ◌+◌, ◌*◌, ◌/◌, ◌%◌, Bool, true, false, List, eqb, get_or, if◌then◌else◌}
 use Rattle.machine.specs.declared.Seen.{Seen}
 use Rattle.machine.specs.declared.Seen.TheVariants.{Settled, ToGrey, Damaged}
-use Rattle.machine.specs.Tests.{if◌then◌else◌}
 use Rattle.machine.specs.Colouring.{Colouring}
 use Rattle.machine.specs.Seen.{seen}
 use Rattle.part_mark.specs.declared.Looked.{Looked}

@@ -19,7 +19,7 @@ use lib.Dec.{leb, ltb}
 use lib.ListN.{length, get_or, take, drop, set, replicate, length-append, length-set, length-take, length-drop, drop_of_length-le}
 use lib.Seq.{length-take-le, drop-cons, drop-set-add, take_at}
 use borrow.Author.Tests.{leb-true, leb-false, le-leb, lt-leb, ltb-true, ltb-false}
-use Rattle.machine.specs.Tests.{if◌then◌else◌}
+use Rattle.std.specs.Prelude.{if◌then◌else◌}
 use Rattle.machine.specs.Search.{came_to, Hop, last_hop, path_from, path_to, path_numbers}
 use Rattle.machine.specs.Why.{padded}
 use Rattle.machine.proofs.Tests.{by_test}

@@ -10,9 +10,8 @@
 -- The tests of a block come in this order, all before its row is written: there are M rows already; the row doesn't fit; reading the
 -- row is refused; its link is no reference.
 -- Assumes nothing.
-use Rattle.std.specs.Prelude.{ℕ, zero, suc, ◌+◌, ◌*◌, List, ◌++◌, eqb, ltb, length, take, drop}
+use Rattle.std.specs.Prelude.{ℕ, zero, suc, ◌+◌, ◌*◌, List, ◌++◌, eqb, ltb, length, take, drop, if◌then◌else◌}
 use Rattle.machine.specs.declared.ReadAnswer.{ReadAnswer}
-use Rattle.machine.specs.Tests.{if◌then◌else◌}
 use Rattle.part_rows.specs.declared.Reason.{Reason}
 use Rattle.part_rows.specs.declared.Reason.TheVariants.{Circle, NoRoom, Refused, NoReference}
 use Rattle.part_rows.specs.declared.Exported.{Exported}

@@ -20,7 +20,7 @@ use native.Mathlib.Numerals.{add-one}
 use lib.Dec.{eqb}
 use lib.ListN.{get_or, length}
 use borrow.Author.Tests.{eq-eqb, ne_eqb}
-use Rattle.machine.specs.Tests.{if◌then◌else◌}
+use Rattle.std.specs.Prelude.{if◌then◌else◌}
 use Rattle.machine.specs.Block.{base, word_of}
 use Rattle.machine.specs.Colouring.{Colouring, is_free}
 use Rattle.machine.specs.Heap.{Heap, colouring}

@@ -3,8 +3,7 @@
 --     walked_to k ws n a l      the last of n such blocks from a on, l where n is 0, and 0 where one of them is none
 --     Within ws n a            the n blocks from a on have their place in the word buffer
 -- Assumes nothing.
-use Rattle.std.specs.Prelude.{ℕ, zero, suc, ◌≤◌, ◌<◌, Bool, ◌&&◌, not, List, eqb, length}
-use Rattle.machine.specs.Tests.{if◌then◌else◌}
+use Rattle.std.specs.Prelude.{ℕ, zero, suc, ◌≤◌, ◌<◌, Bool, ◌&&◌, not, List, eqb, length, if◌then◌else◌}
 use Rattle.machine.specs.Block.{base, word_of}
 use Rattle.machine.specs.Colouring.{Colouring, is_free}
 use Rattle.machine.specs.Entry.{is_block_or_none}

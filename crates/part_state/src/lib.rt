@@ -2,9 +2,8 @@
 // questions that are no states, whether a block may be black and what colour a new one gets.
 #![tactic(auto)]
 
-ghost use Rattle.std.specs.Prelude.{◌≡◌, ◌≤◌, eqb};
+ghost use Rattle.std.specs.Prelude.{◌≡◌, ◌≤◌, eqb, if◌then◌else◌};
 ghost use Rattle.machine.specs.declared.Regs.{Regs};
-ghost use Rattle.machine.specs.Tests.{if◌then◌else◌};
 ghost use Rattle.machine.specs.Registers.{marking, sweeping};
 ghost use Rattle.machine.specs.WellFormed.{Block};
 ghost use Rattle.machine.specs.Colouring.{coloured, CellsFit};

@@ -14,7 +14,7 @@ use borrow.Author.Tests.{eq-eqb, ne_eqb, ltb-true, ltb-false, lt-ltb, le-ltb}
 use Rattle.machine.specs.declared.Regs.{Regs}
 use Rattle.machine.specs.declared.Progress.{Progress}
 use Rattle.machine.specs.declared.Progress.TheVariants.{Done}
-use Rattle.machine.specs.Tests.{if◌then◌else◌}
+use Rattle.std.specs.Prelude.{if◌then◌else◌}
 use Rattle.machine.specs.Registers.{idle, with_phase, with_position, sweep_end}
 use Rattle.machine.specs.OneUnit.{advance}
 use Rattle.machine.proofs.Tests.{by_eq, if_ind}

@@ -4,11 +4,10 @@
 --     settling p           the same of what a unit answers
 --     Onward r p           where the unit is done, the position has gone on by one; the mark and the phase stay
 -- Assumes nothing.
-use Rattle.std.specs.Prelude.{◌+◌, ◌≡◌, eqb}
+use Rattle.std.specs.Prelude.{◌+◌, ◌≡◌, eqb, if◌then◌else◌}
 use Rattle.machine.specs.declared.Regs.{Regs}
 use Rattle.machine.specs.declared.Progress.{Progress}
 use Rattle.machine.specs.declared.Progress.TheVariants.{Done, Damaged}
-use Rattle.machine.specs.Tests.{if◌then◌else◌}
 use Rattle.machine.specs.Registers.{idle, with_phase, with_position, sweep_end}
 
 unfoldable pub settled : Regs → Regs

@@ -2,9 +2,8 @@
 // units the sweep's end is met once, behind the last of them.
 #![tactic(auto)]
 
-ghost use Rattle.std.specs.Prelude.{◌≡◌, List, ℕ, ◌+◌, ◌-◌, ◌≤◌, ◌<◌, ltb};
+ghost use Rattle.std.specs.Prelude.{◌≡◌, List, ℕ, ◌+◌, ◌-◌, ◌≤◌, ◌<◌, ltb, if◌then◌else◌};
 ghost use Rattle.machine.specs.declared.Step.TheVariants.{Reclaim};
-ghost use Rattle.machine.specs.Tests.{if◌then◌else◌};
 ghost use Rattle.machine.specs.Registers.{sweeping, with_position, sweep_end};
 ghost use Rattle.machine.specs.WellFormed.{Block};
 ghost use Rattle.machine.specs.Colouring.{CellsFit};

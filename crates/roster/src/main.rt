@@ -19,19 +19,20 @@ struct Said {
 }
 
 // What an export answered, and how many rows of the buffer are not as they were stored.
-fn shown(text: &[u8], x: Exported, out: &[u32]) -> bool {
-    printing::outcome(text, x)
+fn shown<R: Print>(rt: &R, text: &[u8], x: Exported, out: &[u32]) -> bool {
+    printing::outcome(rt, text, x)
         && printing::number(
+            rt,
             b"rows that are not as they were stored: ",
             night::unlike(out),
         )
 }
 
 // One line more is said where all before it could be written: what the export answered. The night is then that after it.
-fn further(s: Said, y: Tried, text: &[u8]) -> Said {
+fn further<R: Print>(rt: &R, s: Said, y: Tried, text: &[u8]) -> Said {
     let t = y.night;
     let x = y.found;
-    let whole = s.whole && printing::outcome(text, x);
+    let whole = s.whole && printing::outcome(rt, text, x);
     Said {
         night: t,
         whole: whole,
@@ -53,32 +54,48 @@ fn enough(pace: u32) -> bool {
 }
 
 // What was done.
-fn told(t: Night, words: &[u32; 131072], colours: &[u32; 16384], bytes: &[u8; 16384]) -> bool {
+fn told<R: Print>(
+    rt: &R,
+    t: Night,
+    words: &[u32; 131072],
+    colours: &[u32; 16384],
+    bytes: &[u8; 16384],
+) -> bool {
     let r = t.regs;
     let a = call_audit::audit(r, words, colours, bytes);
     printing::answer(
+        rt,
         b"16384 blocks at pace 28 are enough for 14003 in use: ",
         enough(28),
     ) && printing::answer(
+        rt,
         b"16384 blocks at pace 27 are enough for 14003 in use: ",
         enough(27),
     ) && printing::number(
+        rt,
         b"rows of 14 fields stored, each followed by two objects of garbage: ",
         7000,
-    ) && printing::number(b"calls refused: ", t.refused)
-        && printing::number(b"collector cycles finished meanwhile: ", finished(r))
-        && printing::answer(b"heap well-formed: ", a.value == 1)
+    ) && printing::number(rt, b"calls refused: ", t.refused)
+        && printing::number(rt, b"collector cycles finished meanwhile: ", finished(r))
+        && printing::answer(rt, b"heap well-formed: ", a.value == 1)
 }
 
 // The export into a buffer of 5,000 rows.
-fn shortened(t: Night, words: &[u32; 131072], colours: &[u32; 16384], bytes: &[u8; 16384]) -> bool {
+fn shortened<R: Print>(
+    rt: &R,
+    t: Night,
+    words: &[u32; 131072],
+    colours: &[u32; 16384],
+    bytes: &[u8; 16384],
+) -> bool {
     let mut out = [0u32; 70000];
     let x = night::exported(t, words, colours, bytes, &mut out);
-    printing::outcome(b"into a buffer of 5000 rows: ", x)
+    printing::outcome(rt, b"into a buffer of 5000 rows: ", x)
 }
 
 // The export of the rows' first blocks, eight words each.
-fn of_blocks(
+fn of_blocks<R: Print>(
+    rt: &R,
     t: Night,
     words: &[u32; 131072],
     colours: &[u32; 16384],
@@ -86,11 +103,12 @@ fn of_blocks(
     out: &mut [u32; 229376],
 ) -> bool {
     let x = call_export::export(t.regs, words, colours, bytes, out, t.first, 0);
-    printing::outcome(b"of the rows' first blocks alone: ", x)
+    printing::outcome(rt, b"of the rows' first blocks alone: ", x)
 }
 
 // What was done, the export of the list, one into a buffer that is too short, and one of blocks.
-fn first(
+fn first<R: Print>(
+    rt: &R,
     t: Night,
     words: &[u32; 131072],
     colours: &[u32; 16384],
@@ -98,10 +116,10 @@ fn first(
     out: &mut [u32; 229376],
 ) -> Said {
     let x = night::exported(t, words, colours, bytes, out);
-    let whole = told(t, words, colours, bytes)
-        && shown(b"export: ", x, out)
-        && shortened(t, words, colours, bytes)
-        && of_blocks(t, words, colours, bytes, out);
+    let whole = told(rt, t, words, colours, bytes)
+        && shown(rt, b"export: ", x, out)
+        && shortened(rt, t, words, colours, bytes)
+        && of_blocks(rt, t, words, colours, bytes, out);
     Said {
         night: t,
         whole: whole,
@@ -109,7 +127,8 @@ fn first(
 }
 
 // The export of the mended list.
-fn mended(
+fn mended<R: Print>(
+    rt: &R,
     s: Said,
     words: &[u32; 131072],
     colours: &[u32; 16384],
@@ -118,7 +137,7 @@ fn mended(
 ) -> Said {
     let t = s.night;
     let x = night::exported(t, words, colours, bytes, out);
-    let whole = s.whole && shown(b"with all of that mended: ", x, out);
+    let whole = s.whole && shown(rt, b"with all of that mended: ", x, out);
     Said {
         night: t,
         whole: whole,
@@ -126,7 +145,8 @@ fn mended(
 }
 
 // A link, or the reference to a row's second block, stored as a number.
-fn numbered(
+fn numbered<R: Print>(
+    rt: &R,
     s: Said,
     words: &mut [u32; 131072],
     colours: &mut [u32; 16384],
@@ -134,9 +154,10 @@ fn numbered(
     out: &mut [u32; 229376],
 ) -> Said {
     let x = damage::unlinked(s.night, words, colours, bytes, out);
-    let a = further(s, x, b"with row 6144's link stored as a number: ");
+    let a = further(rt, s, x, b"with row 6144's link stored as a number: ");
     let y = damage::halved(a.night, words, colours, bytes, out);
     further(
+        rt,
         a,
         y,
         b"with the reference to row 6144's second block stored as a number: ",
@@ -144,7 +165,8 @@ fn numbered(
 }
 
 // The colour word of a row's first and then of its second block outside the layout.
-fn discoloured(
+fn discoloured<R: Print>(
+    rt: &R,
     s: Said,
     words: &[u32; 131072],
     colours: &mut [u32; 16384],
@@ -154,12 +176,14 @@ fn discoloured(
     let t = s.night;
     let x = damage::discoloured(t, words, colours, bytes, out, t.marked);
     let a = further(
+        rt,
         s,
         x,
         b"with the colour word of row 6144's first block outside the layout: ",
     );
     let y = damage::discoloured(t, words, colours, bytes, out, t.second);
     further(
+        rt,
         a,
         y,
         b"with the colour word of row 6144's second block outside the layout: ",
@@ -167,21 +191,23 @@ fn discoloured(
 }
 
 // The list damaged in five ways, one after another, and mended each time.
-fn damaged(
+fn damaged<R: Print>(
+    rt: &R,
     s: Said,
     words: &mut [u32; 131072],
     colours: &mut [u32; 16384],
     bytes: &mut [u8; 16384],
     out: &mut [u32; 229376],
 ) -> Said {
-    let a = numbered(s, words, colours, bytes, out);
-    let b = discoloured(a, words, colours, bytes, out);
+    let a = numbered(rt, s, words, colours, bytes, out);
+    let b = discoloured(rt, a, words, colours, bytes, out);
     let z = damage::circled(b.night, words, colours, bytes, out);
-    further(b, z, b"with the last row linked to the first: ")
+    further(rt, b, z, b"with the last row linked to the first: ")
 }
 
 // The list let go.
-fn dropped(
+fn dropped<R: Print>(
+    rt: &R,
     s: Said,
     words: &mut [u32; 131072],
     colours: &mut [u32; 16384],
@@ -190,6 +216,7 @@ fn dropped(
 ) -> Said {
     let x = damage::dropped(s.night, words, colours, bytes, out);
     further(
+        rt,
         s,
         x,
         b"once the root let go of it and the collector came by: ",
@@ -197,29 +224,33 @@ fn dropped(
 }
 
 // The last line, and a word on standard error where not all could be written.
-fn ended(s: Said) {
+fn ended<R: Print + Eprint>(rt: &R, s: Said) {
     let t = s.night;
-    printing::ended(s.whole && printing::number(b"calls refused, in all: ", t.refused));
+    printing::ended(
+        rt,
+        s.whole && printing::number(rt, b"calls refused, in all: ", t.refused),
+    );
 }
 
 // A night, and all that is said of it.
-fn run(
+fn run<R: Print + Eprint>(
+    rt: &R,
     words: &mut [u32; 131072],
     colours: &mut [u32; 16384],
     bytes: &mut [u8; 16384],
     out: &mut [u32; 229376],
 ) {
     let t = night::spent(words, colours, bytes);
-    let a = first(t, words, colours, bytes, out);
-    let b = damaged(a, words, colours, bytes, out);
-    let c = mended(b, words, colours, bytes, out);
-    ended(dropped(c, words, colours, bytes, out));
+    let a = first(rt, t, words, colours, bytes, out);
+    let b = damaged(rt, a, words, colours, bytes, out);
+    let c = mended(rt, b, words, colours, bytes, out);
+    ended(rt, dropped(rt, c, words, colours, bytes, out));
 }
 
-fn main() {
+fn main(rt: HostRuntime) {
     let mut words = [0u32; 131072];
     let mut colours = [0u32; 16384];
     let mut bytes = [0u8; 16384];
     let mut out = [0u32; 229376];
-    run(&mut words, &mut colours, &mut bytes, &mut out);
+    run(&rt, &mut words, &mut colours, &mut bytes, &mut out);
 }

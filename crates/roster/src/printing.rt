@@ -1,53 +1,54 @@
 // Lines of plain words. Each function answers whether all of its line could be written.
 use part_rows::{Exported, Reason};
 
-fn say(text: &[u8]) -> bool {
-    io::write_all(1, text)
+fn say<R: Print>(rt: &R, text: &[u8]) -> bool {
+    rt.write_all(text).is_ok()
 }
 
-fn decimal(n: u32) -> bool {
-    io::print_decimal(1, n as u64)
+fn decimal<R: Print>(rt: &R, n: u32) -> bool {
+    rt.print(n).is_ok()
 }
 
 // The words and a number.
-pub(crate) fn number(text: &[u8], n: u32) -> bool {
-    say(text) && decimal(n) && say(b"\n")
+pub(crate) fn number<R: Print>(rt: &R, text: &[u8], n: u32) -> bool {
+    say(rt, text) && decimal(rt, n) && say(rt, b"\n")
 }
 
 // The words and yes or no.
-pub(crate) fn answer(text: &[u8], yes: bool) -> bool {
+pub(crate) fn answer<R: Print>(rt: &R, text: &[u8], yes: bool) -> bool {
     if yes {
-        return say(text) && say(b"yes\n");
+        return say(rt, text) && say(rt, b"yes\n");
     }
-    say(text) && say(b"no\n")
+    say(rt, text) && say(rt, b"no\n")
 }
 
-fn reason(r: Reason) -> bool {
+fn reason<R: Print>(rt: &R, r: Reason) -> bool {
     match r {
-        Reason::Circle => say(b"the list runs in a circle\n"),
-        Reason::NoRoom => say(b"no room for the next\n"),
-        Reason::Refused(n) => number(b"a read of the next is refused by ", n),
-        Reason::NoReference => say(b"the link of the next is no reference\n"),
+        Reason::Circle => say(rt, b"the list runs in a circle\n"),
+        Reason::NoRoom => say(rt, b"no room for the next\n"),
+        Reason::Refused(n) => number(rt, b"a read of the next is refused by ", n),
+        Reason::NoReference => say(rt, b"the link of the next is no reference\n"),
     }
 }
 
 // The words, and whether the export is complete, with the number of rows; where it isn't, why.
-pub(crate) fn outcome(text: &[u8], x: Exported) -> bool {
+pub(crate) fn outcome<R: Print>(rt: &R, text: &[u8], x: Exported) -> bool {
     match x {
-        Exported::Complete(n) => say(text) && number(b"complete, rows: ", n),
+        Exported::Complete(n) => say(rt, text) && number(rt, b"complete, rows: ", n),
         Exported::Stopped(n, r) => {
-            say(text) && say(b"NOT complete, rows: ") && decimal(n) && say(b"; ") && reason(r)
+            say(rt, text)
+                && say(rt, b"NOT complete, rows: ")
+                && decimal(rt, n)
+                && say(rt, b"; ")
+                && reason(rt, r)
         }
     }
 }
 
 // Says on standard error where not all could be written.
-pub(crate) fn ended(whole: bool) {
+pub(crate) fn ended<R: Eprint>(rt: &R, whole: bool) {
     if whole {
         return;
     }
-    io::write_all(
-        2,
-        b"standard output could not be written: what was printed is not all\n",
-    );
+    let _ = rt.eprintln("standard output could not be written: what was printed is not all");
 }

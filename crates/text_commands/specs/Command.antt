@@ -9,8 +9,7 @@
 --     command_of text       what a line asks for
 --     packed ns, arguments_of ps     numbers as the code passes them
 -- Assumes nothing.
-use Rattle.std.specs.Prelude.{ℕ, Bool, true, ◌&&◌, List, [], ◌∷◌, eqb, leb, length}
-use Rattle.machine.specs.Tests.{if◌then◌else◌}
+use Rattle.std.specs.Prelude.{ℕ, Bool, true, ◌&&◌, List, [], ◌∷◌, eqb, leb, length, if◌then◌else◌}
 use Rattle.text_numbers.specs.Numbers.{piece, later, value, is_number}
 use Rattle.text_commands.specs.declared.Numbers.{Numbers}
 use Rattle.text_commands.specs.declared.Arguments.{Arguments}

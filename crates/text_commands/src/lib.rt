@@ -11,6 +11,9 @@ ghost use Rattle.text_commands.specs.Saying.{spoken, said, plainly, reading, blo
 use machine::{Answer, Outcome, ReadAnswer, Regs};
 use text_numbers::{Cursor, Number};
 
+// A longer line breaks the rules.
+const MOST_BYTES: usize = 40;
+
 // What a line asks for.
 #[derive(Clone, Copy)]
 pub enum Command {
@@ -180,7 +183,7 @@ pub fn asked(letter: u8, n: Numbers) -> Command
 pub fn command_of(text: &[u8]) -> Command
     ensures { result ≡ command_of text.now }
 {
-    if 40 < text.len() {
+    if MOST_BYTES < text.len() {
         return Command::Broken;
     }
     if text.len() == 0 {

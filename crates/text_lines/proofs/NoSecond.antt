@@ -10,7 +10,7 @@ use mathlib.Core.List.{List}
 use native.Mathlib.Omega.{arith}
 use lib.ListN.{length, take, take-append-drop, length-take}
 use borrow.Author.Tests.{ne_eqb, lt-leb}
-use Rattle.machine.specs.Heap.{Heap, heap}
+use Rattle.machine.specs.Heap.{Heap}
 use Rattle.machine.specs.Tests.{◌▷◌}
 use Rattle.machine.specs.Entry.{numbers_fit, lengths_fit, fits, entry}
 use Rattle.machine.specs.Answers.{unless}
@@ -23,7 +23,7 @@ use Rattle.machine.specs.Audit.{passes, audit}
 use Rattle.text_commands.specs.declared.Command.{Command}
 use Rattle.text_commands.specs.declared.Command.TheVariants.{Format, Read, StoreNumber, StoreReference, SetRoot, Allocate, Work, Audit, Broken}
 use Rattle.text_commands.specs.Command.{command_of}
-use Rattle.text_commands.specs.Saying.{Spoken, spoken, said, blocks_of}
+use Rattle.text_commands.specs.Saying.{Spoken, spoken, blocks_of}
 use Rattle.text_lines.specs.Line.{performed, front, back, within, line_gives}
 use Rattle.text_lines.specs.NoSecond.{NoSecondOutcome, Greatest, Rules}
 

@@ -7,10 +7,9 @@
 use Rattle.std.specs.Prelude.{ℕ, ◌<◌, ◌≡◌, ◌≢◌, List, length}
 use Rattle.machine.specs.Heap.{Heap}
 use Rattle.text_commands.specs.declared.Said.{Said}
-use Rattle.text_commands.specs.declared.Command.{Command}
 use Rattle.text_commands.specs.declared.Command.TheVariants.{Format, Audit, Broken}
 use Rattle.text_commands.specs.Command.{command_of}
-use Rattle.text_commands.specs.Saying.{Spoken, spoken, said}
+use Rattle.text_commands.specs.Saying.{spoken, said}
 use Rattle.text_lines.specs.Line.{line_gives}
 
 pub record Same (s t : Said) (ws xs cs ds bs es : List ℕ) : Type 0 where

@@ -9,8 +9,7 @@
 --     number_at text at     what reading a number at a place finds
 -- Two spaces in a row have an empty piece between them, and an empty piece is no number.
 -- Assumes nothing.
-use Rattle.std.specs.Prelude.{ℕ, ◌+◌, ◌-◌, ◌*◌, Bool, true, ◌&&◌, List, [], ◌∷◌, eqb, leb, length, drop}
-use Rattle.machine.specs.Tests.{if◌then◌else◌}
+use Rattle.std.specs.Prelude.{ℕ, ◌+◌, ◌-◌, ◌*◌, Bool, true, ◌&&◌, List, [], ◌∷◌, eqb, leb, length, drop, if◌then◌else◌}
 use Rattle.text_numbers.specs.declared.Number.{Number}
 use Rattle.text_numbers.specs.declared.Number.TheVariants.{Whole, Broken}
 

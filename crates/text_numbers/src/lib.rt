@@ -1,10 +1,12 @@
 // Numbers in a line of text: reading them. What a text is parted into, and which parts are numbers, is in specs/.
 #![tactic(auto)]
 
-ghost use Rattle.std.specs.Prelude.{◌≡◌, ◌&&◌, ◌≤◌, leb};
-ghost use Rattle.machine.specs.Tests.{if◌then◌else◌};
+ghost use Rattle.std.specs.Prelude.{◌≡◌, ◌&&◌, ◌≤◌, leb, if◌then◌else◌};
 ghost use Rattle.text_numbers.specs.declared.Number.TheVariants.{Whole, Broken};
 ghost use Rattle.text_numbers.specs.Numbers.{number_at};
+
+// The greatest number of 32 bits has so many digits.
+const MOST_DIGITS: usize = 10;
 
 // A place in a text.
 #[derive(Clone, Copy)]
@@ -33,7 +35,7 @@ fn whole(n: u64, digits: usize, end: usize) -> Number
     if digits == 0 {
         return Number::Broken;
     }
-    if 10 < digits {
+    if MOST_DIGITS < digits {
         return Number::Broken;
     }
     Number::Whole(n as u32, Cursor { at: end })

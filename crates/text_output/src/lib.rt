@@ -32,23 +32,20 @@ pub fn empty() -> Output
 }
 
 // Says on standard error that output is lost. Where that can't be written either, there is nowhere left to say it.
-fn say_unwritten() {
-    io::write_all(
-        2,
-        b"standard output could not be written: what was printed is not all\n",
-    );
+fn say_unwritten<R: Eprint>(rt: &R) {
+    let _ = rt.eprintln("standard output could not be written: what was printed is not all");
 }
 
 // Writes out what waits, after which nothing waits. A write that fails is said on standard error, once: after it nothing is written.
-pub fn flush(out: &[u8; 65536], o: Output) -> Output
+pub fn flush<R: Print + Eprint>(rt: &R, out: &[u8; 65536], o: Output) -> Output
     ensures { Flushed o result }
 {
     if o.well {
         let text = start_of(out, o.used);
-        if io::write_all(1, text) {
+        if rt.write_all(text).is_ok() {
             return empty();
         }
-        say_unwritten();
+        say_unwritten(rt);
     }
     Output {
         used: 0,
@@ -57,13 +54,13 @@ pub fn flush(out: &[u8; 65536], o: Output) -> Output
 }
 
 // Sees to it that there is room for a number and a byte: where there is none, what waits is written out.
-fn room(out: &[u8; 65536], o: Output) -> Output
+fn room<R: Print + Eprint>(rt: &R, out: &[u8; 65536], o: Output) -> Output
     ensures { Roomy o result }
 {
     if o.used <= 65515 {
         return o;
     }
-    flush(out, o)
+    flush(rt, out, o)
 }
 
 // Copies a text into the buffer, from a place on.
@@ -91,10 +88,10 @@ fn spell(out: &mut [u8; 65536], at: usize, n: u64, stop: u8) -> usize
 }
 
 // Puts the number n in decimal and the byte stop after what waits.
-pub fn put(out: &mut [u8; 65536], o: Output, n: u64, stop: u8) -> Output
+pub fn put<R: Print + Eprint>(rt: &R, out: &mut [u8; 65536], o: Output, n: u64, stop: u8) -> Output
     ensures { Put out.old o n stop result out.new }
 {
-    let to = room(out, o);
+    let to = room(rt, out, o);
     Output {
         used: spell(out, to.used, n, stop),
         well: to.well,
@@ -102,10 +99,17 @@ pub fn put(out: &mut [u8; 65536], o: Output, n: u64, stop: u8) -> Output
 }
 
 // Puts three numbers, parted by spaces and ended by byte 10.
-pub fn put_three(out: &mut [u8; 65536], o: Output, first: u32, second: u32, third: u32) -> Output
+pub fn put_three<R: Print + Eprint>(
+    rt: &R,
+    out: &mut [u8; 65536],
+    o: Output,
+    first: u32,
+    second: u32,
+    third: u32,
+) -> Output
     ensures { PutThree out.old o first second third result out.new }
 {
-    let a = put(out, o, first as u64, 32);
-    let b = put(out, a, second as u64, 32);
-    put(out, b, third as u64, 10)
+    let a = put(rt, out, o, first as u64, 32);
+    let b = put(rt, out, a, second as u64, 32);
+    put(rt, out, b, third as u64, 10)
 }

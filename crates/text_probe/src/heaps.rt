@@ -82,7 +82,8 @@ fn number(s: Said, words: &[u32], colours: &[u32], bytes: &[u8], i: usize) -> u3
 }
 
 // Puts the answer and the whole heap, which has so many numbers, as a line.
-pub(crate) fn put(
+pub(crate) fn put<R: Print + Eprint>(
+    rt: &R,
     out: &mut [u8; 65536],
     o: Output,
     s: Said,
@@ -97,8 +98,14 @@ pub(crate) fn put(
     let mut p = o;
     let mut i = 0;
     while i < last {
-        p = text_output::put(out, p, number(s, words, colours, bytes, i) as u64, 32);
+        p = text_output::put(rt, out, p, number(s, words, colours, bytes, i) as u64, 32);
         i += 1;
     }
-    text_output::put(out, p, number(s, words, colours, bytes, last) as u64, 10)
+    text_output::put(
+        rt,
+        out,
+        p,
+        number(s, words, colours, bytes, last) as u64,
+        10,
+    )
 }

@@ -32,12 +32,13 @@ fn looked(r: Regs, words: &[u32], colours: &[u32], bytes: &[u8], b: u32) -> Said
 }
 
 // What a line says that is no case.
-fn put_broken(out: &mut [u8; 65536], o: Output) -> Output {
-    text_output::put_three(out, o, 99, 0, 0)
+fn put_broken<R: Print + Eprint>(rt: &R, out: &mut [u8; 65536], o: Output) -> Output {
+    text_output::put_three(rt, out, o, 99, 0, 0)
 }
 
 // Does the call, once the buffers are filled, and puts what comes of it. The buffers have so many numbers in all.
-fn do_call(
+fn do_call<R: Print + Eprint>(
+    rt: &R,
     a: Asked,
     r: Regs,
     words: &mut [u32],
@@ -51,18 +52,19 @@ fn do_call(
 {
     if cases::is_look(a) {
         let l = looked(r, &words[..], &colours[..], &bytes[..], a.x);
-        return heaps::put(out, o, l, &words[..], &colours[..], &bytes[..], count);
+        return heaps::put(rt, out, o, l, &words[..], &colours[..], &bytes[..], count);
     }
     let c = cases::command(a);
     if let Command::Broken = c {
-        return put_broken(out, o);
+        return put_broken(rt, out, o);
     }
     let s = text_lines::perform(r, words, colours, bytes, c);
-    heaps::put(out, o, s, &words[..], &colours[..], &bytes[..], count)
+    heaps::put(rt, out, o, s, &words[..], &colours[..], &bytes[..], count)
 }
 
 // Fills the buffers, whose lengths are the case's, from a place of the text up to its end, and does the call.
-fn fill_and_do(
+fn fill_and_do<R: Print + Eprint>(
+    rt: &R,
     text: &[u8],
     at: usize,
     a: Asked,
@@ -77,13 +79,14 @@ fn fill_and_do(
     requires { count ≤ 80 }
 {
     if cases::fills(text, at, words, colours, bytes, count) {
-        return do_call(a, r, words, colours, bytes, count, out, o);
+        return do_call(rt, a, r, words, colours, bytes, count, out, o);
     }
-    put_broken(out, o)
+    put_broken(rt, out, o)
 }
 
 // Reads a line as a case, does it, and puts what comes of it.
-fn do_case(
+fn do_case<R: Print + Eprint>(
+    rt: &R,
     text: &[u8],
     words: &mut [u32],
     colours: &mut [u32],
@@ -94,24 +97,25 @@ fn do_case(
     requires { (length words.old ≤ 64) × (length colours.old ≤ 8) × (length bytes.old ≤ 8) }
 {
     let Head::Is(h) = cases::read_head(text, colours, bytes) else {
-        return put_broken(out, o);
+        return put_broken(rt, out, o);
     };
     let lw = h.words;
     let lc = h.colours;
     let lb = h.bytes;
     if words.len() < lw {
-        return put_broken(out, o);
+        return put_broken(rt, out, o);
     }
     if colours.len() < lc {
-        return put_broken(out, o);
+        return put_broken(rt, out, o);
     }
     if bytes.len() < lb {
-        return put_broken(out, o);
+        return put_broken(rt, out, o);
     }
     let count = lw + lc + lb;
     let a = h.asked;
     let r = h.regs;
     fill_and_do(
+        rt,
         text,
         h.at,
         a,
@@ -126,7 +130,8 @@ fn do_case(
 }
 
 // Does the line, where it is whole.
-fn do_line(
+fn do_line<R: Print + Eprint>(
+    rt: &R,
     words: &mut [u32; 64],
     colours: &mut [u32; 8],
     bytes: &mut [u8; 8],
@@ -139,11 +144,12 @@ fn do_line(
         return o;
     }
     let text = text_output::start_of(line, i.kept);
-    do_case(text, words, colours, bytes, out, o)
+    do_case(rt, text, words, colours, bytes, out, o)
 }
 
 // The loop counts its turns down, from a number that no run uses up.
-fn drive(
+fn drive<R: std::io::Input + Print + Eprint>(
+    rt: &R,
     words: &mut [u32; 64],
     colours: &mut [u32; 8],
     bytes: &mut [u8; 8],
@@ -155,24 +161,25 @@ fn drive(
     let mut o = text_output::empty();
     let mut turns = u64::MAX;
     while turns > 0 && text_streams::goes_on(i, o) {
-        let s = text_streams::next(i, input, line, out, o);
+        let s = text_streams::next(rt, i, input, line, out, o);
         i = s.input;
-        o = do_line(words, colours, bytes, line, i, out, s.output);
+        o = do_line(rt, words, colours, bytes, line, i, out, s.output);
         turns -= 1;
     }
-    text_output::flush(out, o);
+    text_output::flush(rt, out, o);
 }
 
 // Does the cases of standard input, with at most 64 words, 8 colours and 8 bytes. Of a line 1,201 bytes are kept: more than 1,200
 // are no case.
-pub fn run() {
+pub fn run<R: std::io::Input + Print + Eprint>(rt: &R) {
     let mut words = [0u32; 64];
     let mut colours = [0u32; 8];
     let mut bytes = [0u8; 8];
     let mut line = [0u8; 1201];
-    let mut input = io::large_buffer();
-    let mut out = io::large_buffer();
+    let mut input = [0u8; 65536];
+    let mut out = [0u8; 65536];
     drive(
+        rt,
         &mut words,
         &mut colours,
         &mut bytes,

@@ -8,14 +8,14 @@ use mathlib.Core.List.{List}
 use native.Mathlib.Omega.{arith}
 use lib.ListN.{take}
 use Rattle.machine.specs.declared.Regs.{Regs}
-use Rattle.machine.specs.Heap.{Heap, heap}
+use Rattle.machine.specs.Heap.{heap}
 use Rattle.text_commands.specs.declared.Said.{Said}
 use Rattle.text_commands.specs.Saying.{Spoken, said}
 use Rattle.text_lines.specs.Line.{line_gives}
 use Rattle.text_streams.specs.declared.input.Input.{Input}
 use Rattle.text_output.specs.declared.Output.{Output}
 use Rattle.text_output.specs.Output.{PutThree}
-use Rattle.text_run.specs.Doing.{Did, Turn}
+use Rattle.text_run.specs.Doing.{Turn}
 
 never : (t : Bool) → t ≡ true → t ≡ false → ⊥
 never t p q = let z : ◌≡◌ {A = ℕ} 0 1 = cc in omega arith

@@ -3,9 +3,9 @@
 --     Did                  a line was done: the heap is the one that it gives, and its three numbers wait to be written
 --     Turn                 a line that is whole is done; one that is not changes nothing
 -- Assumes nothing.
-use Rattle.std.specs.Prelude.{ℕ, ◌≡◌, Bool, true, false, List, take}
+use Rattle.std.specs.Prelude.{ℕ, ◌≡◌, true, false, List, take}
 use Rattle.machine.specs.declared.Regs.{Regs}
-use Rattle.machine.specs.Heap.{Heap, heap}
+use Rattle.machine.specs.Heap.{heap}
 use Rattle.text_commands.specs.Saying.{Spoken}
 use Rattle.text_lines.specs.Line.{line_gives}
 use Rattle.text_streams.specs.declared.input.Input.{Input}

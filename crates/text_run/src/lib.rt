@@ -31,7 +31,8 @@ fn fresh() -> Regs {
 }
 
 // Does the line, where it is whole, and puts its three numbers.
-fn do_line(
+fn do_line<R: Print + Eprint>(
+    rt: &R,
     r: Regs,
     words: &mut [u32; 8192],
     colours: &mut [u32; 1024],
@@ -49,14 +50,15 @@ fn do_line(
         let after = said.regs;
         return Done {
             regs: after,
-            output: text_output::put_three(out, o, said.first, said.second, said.third),
+            output: text_output::put_three(rt, out, o, said.first, said.second, said.third),
         };
     }
     Done { regs: r, output: o }
 }
 
 // A proved loop has to end, and nothing says that the input does: so it counts its turns down, from a number that no run uses up.
-fn drive(
+fn drive<R: std::io::Input + Print + Eprint>(
+    rt: &R,
     words: &mut [u32; 8192],
     colours: &mut [u32; 1024],
     bytes: &mut [u8; 1024],
@@ -69,25 +71,26 @@ fn drive(
     let mut o = text_output::empty();
     let mut turns = u64::MAX;
     while turns > 0 && text_streams::goes_on(i, o) {
-        let s = text_streams::next(i, input, line, out, o);
+        let s = text_streams::next(rt, i, input, line, out, o);
         i = s.input;
-        let d = do_line(r, words, colours, bytes, line, i, out, s.output);
+        let d = do_line(rt, r, words, colours, bytes, line, i, out, s.output);
         r = d.regs;
         o = d.output;
         turns -= 1;
     }
-    text_output::flush(out, o);
+    text_output::flush(rt, out, o);
 }
 
 // Does the lines of standard input on a heap of at most 1,024 blocks. Of a line 41 bytes are kept: more than 40 break the rules.
-pub fn run() {
+pub fn run<R: std::io::Input + Print + Eprint>(rt: &R) {
     let mut words = [0u32; 8192];
     let mut colours = [0u32; 1024];
     let mut bytes = [0u8; 1024];
     let mut line = [0u8; 41];
-    let mut input = io::large_buffer();
-    let mut out = io::large_buffer();
+    let mut input = [0u8; 65536];
+    let mut out = [0u8; 65536];
     drive(
+        rt,
         &mut words,
         &mut colours,
         &mut bytes,

@@ -15,7 +15,7 @@ use lib.IntN.{ℤ, pos, negsuc}
 use lib.Signed.{lt_z}
 use borrow.Author.Tests.{le-ltb}
 use Rattle.io.specs.Counts.{clamp_len}
-use Rattle.machine.specs.Tests.{if◌then◌else◌}
+use Rattle.std.specs.Prelude.{if◌then◌else◌}
 use Rattle.text_output.specs.declared.Output.{Output}
 use Rattle.text_output.specs.Output.{Flushed}
 use Rattle.text_streams.specs.declared.input.Input.{Input}

@@ -9,9 +9,8 @@
 --     Reads                what waits is written out, and then there is a read; none where that write fails
 --     Next                 going on in what was read, or reading where nothing of it is left
 -- Assumes nothing.
-use Rattle.std.specs.Prelude.{ℕ, ◌≤◌, ◌<◌, min, ◌≡◌, Bool, true, false, List, eqb, ltb, length, take, ℤ, pos, negsuc}
+use Rattle.std.specs.Prelude.{ℕ, ◌≤◌, ◌<◌, min, ◌≡◌, Bool, true, false, List, eqb, ltb, length, take, ℤ, pos, negsuc, if◌then◌else◌}
 use Rattle.io.specs.Counts.{clamp_len}
-use Rattle.machine.specs.Tests.{if◌then◌else◌}
 use Rattle.text_output.specs.declared.Output.{Output}
 use Rattle.text_output.specs.Output.{Flushed}
 use Rattle.text_streams.specs.declared.input.Input.{Input}

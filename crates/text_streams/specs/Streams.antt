@@ -3,8 +3,7 @@
 --     line_of xs            the bytes up to the first byte 10, or all
 --     CutOut               what a cut does: a line of which so many bytes are kept goes on with the bytes up to byte 10
 -- Assumes nothing.
-use Rattle.std.specs.Prelude.{ℕ, ◌+◌, ◌≤◌, ◌≡◌, List, [], ◌∷◌, ◌++◌, eqb, ltb, length, take, drop}
-use Rattle.machine.specs.Tests.{if◌then◌else◌}
+use Rattle.std.specs.Prelude.{ℕ, ◌+◌, ◌≤◌, ◌≡◌, List, [], ◌∷◌, ◌++◌, eqb, ltb, length, take, drop, if◌then◌else◌}
 use Rattle.text_streams.specs.declared.cutting.Cut.{Cut}
 
 unfoldable pub line_of : List ℕ → List ℕ

@@ -3,6 +3,9 @@
 ghost use Rattle.std.specs.Prelude.{◌≡◌, [], ◌∷◌, ◌++◌, ◌≤◌, length, take};
 ghost use Rattle.text_streams.specs.Streams.{CutOut};
 
+// The byte that ends a line.
+const LINE_END: u8 = 10;
+
 // How a cut ended: the place to go on at, how many bytes of the line are kept, and whether the line ended there.
 #[derive(Clone, Copy)]
 pub(crate) struct Cut {
@@ -32,7 +35,7 @@ pub(crate) fn cut_line(input: &[u8], from: usize, line: &mut [u8], kept: usize) 
     let mut n = kept;
     while at < input.len() {
         let b = input[at];
-        if b == 10 {
+        if b == LINE_END {
             return Cut {
                 at: at + 1,
                 length: n,

@@ -1,8 +1,9 @@
 // Lines out of standard input, read into a buffer. The memory taken is constant, and of a line as many bytes are kept as its own buffer holds.
-ghost use Rattle.std.specs.Prelude.{◌≡◌, true, false, ◌≤◌, min, length};
+ghost use Rattle.std.specs.Prelude.{◌≡◌, true, false, ◌≤◌, min, length, IfOk, MatchResult, pos, negsuc};
 ghost use Rattle.text_streams.specs.Input.{begun, negative, ended, read_gives, WentOn, ReadOnce, Next};
 
 use super::cutting::cut_line;
+use std::io::{BufRead, Read};
 use text_output::Output;
 
 // Where reading stands: the place in the buffer to go on at, how many bytes of the buffer were read, how many bytes of a line are kept,
@@ -50,11 +51,8 @@ fn no_more() -> Input
 }
 
 // Says on standard error that input is lost. Where that can't be written, there is nowhere left to say it.
-fn say_unread() {
-    io::write_all(
-        2,
-        b"standard input could not be read to its end: what was printed is not all\n",
-    );
+fn say_unread<R: Eprint>(rt: &R) {
+    let _ = rt.eprintln("standard input could not be read to its end: what was printed is not all");
 }
 
 // The lesser of two numbers.
@@ -74,7 +72,18 @@ fn begun_of(s: Input, most: usize) -> usize
     least(s.kept, most)
 }
 
-// Whether a read that answered this failed. One that a signal broke off counts as failed, as it does in io.
+// What a read answered, as one number: how many bytes it gave, or -1 where it failed.
+fn answered(read: std::io::Result<usize>) -> isize
+    requires { IfOk read (λ n. n ≤ 65536) }
+    ensures { MatchResult read (λ n. result ≡ pos n) (λ e. result ≡ negsuc 0) }
+{
+    match read {
+        Ok(n) => n as isize,
+        Err(_) => -1,
+    }
+}
+
+// Whether a read that answered this failed. One that a signal broke off counts as failed, as it does in std.
 fn is_failure(got: isize) -> bool
     ensures { result ≡ negative got }
 {
@@ -83,11 +92,11 @@ fn is_failure(got: isize) -> bool
 
 // Where reading stands after a read that failed, or gave n bytes, 0 at the end of the input. At the end a line that has any byte is whole;
 // after a failure none is, and the failure is said.
-fn after_read(failed: bool, n: usize, kept: usize) -> Input
+fn after_read<R: Eprint>(rt: &R, failed: bool, n: usize, kept: usize) -> Input
     ensures { result ≡ read_gives failed n kept }
 {
     if failed {
-        say_unread();
+        say_unread(rt);
         return no_more();
     }
     if n == 0 {
@@ -124,16 +133,18 @@ fn go_on(buffer: &[u8], at: usize, n: usize, line: &mut [u8], kept: usize) -> In
 }
 
 // Reads once.
-fn read_once(buffer: &mut [u8; 65536], kept: usize) -> Input
+fn read_once<R: std::io::Input + Eprint>(rt: &R, buffer: &mut [u8; 65536], kept: usize) -> Input
     ensures { ReadOnce kept result }
 {
-    let got = libc::read(0, buffer);
-    after_read(is_failure(got), io::count(got, buffer), kept)
+    let mut reader = rt.reader();
+    let got = answered(reader.read(buffer));
+    after_read(rt, is_failure(got), io::count(got, buffer), kept)
 }
 
 // Goes on to the end of a line, or of what was read. Where nothing of that is left, writes out what waits, since a read may wait long, and
 // then reads once. Where that write fails, nothing is read any more.
-pub fn next(
+pub fn next<R: std::io::Input + Print + Eprint>(
+    rt: &R,
     s: Input,
     buffer: &mut [u8; 65536],
     line: &mut [u8],
@@ -151,10 +162,11 @@ pub fn next(
             output: o,
         };
     }
-    let written = text_output::flush(out, o);
-    if written.well {
+    let written = text_output::flush(rt, out, o);
+    let well = written.well;
+    if well {
         return Step {
-            input: read_once(buffer, kept),
+            input: read_once(rt, buffer, kept),
             output: written,
         };
     }

@@ -16,7 +16,7 @@ use lib.Dec.{eqb}
 use lib.ListN.{get_or, drop}
 use lib.Seq.{get_or-take, get_or-drop}
 use borrow.Author.Tests.{eqb-true, eq-eqb}
-use Rattle.machine.specs.Tests.{if◌then◌else◌}
+use Rattle.std.specs.Prelude.{if◌then◌else◌}
 use Rattle.machine.specs.Block.{base, word_of, byte_of, bit, eight_words, references_from}
 use Rattle.machine.specs.Heap.{Heap, references_of}
 use Rattle.machine.specs.Audit.{zero_from}

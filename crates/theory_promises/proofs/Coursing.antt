@@ -9,7 +9,7 @@ use mathlib.Core.Bool.{Bool}
 use mathlib.Core.List.{List}
 use lib.Dec.{eqb}
 use Rattle.machine.specs.declared.Regs.{Regs}
-use Rattle.machine.specs.Tests.{if◌then◌else◌}
+use Rattle.std.specs.Prelude.{if◌then◌else◌}
 use Rattle.machine.specs.Registers.{idle, sweeping, with_phase, with_position, sweep_end}
 use Rattle.machine.specs.Colouring.{coloured}
 use Rattle.machine.specs.OneUnit.{turned_regs, advance}

@@ -10,7 +10,8 @@ use mathlib.Core.Bool.{Bool, true, false, ◌&&◌, not}
 use native.Mathlib.Nat.{mod-lt}
 use native.Mathlib.Omega.{arith}
 use lib.Dec.{eqb, leb}
-use Rattle.machine.specs.Tests.{if◌then◌else◌, ◌▷◌}
+use Rattle.std.specs.Prelude.{if◌then◌else◌}
+use Rattle.machine.specs.Tests.{◌▷◌}
 use Rattle.machine.specs.Block.{is_block, byte_of, bit}
 use Rattle.machine.specs.Heap.{Heap}
 use Rattle.machine.specs.Entry.{entry, word_refusal, target_place}

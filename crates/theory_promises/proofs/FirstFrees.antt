@@ -16,7 +16,8 @@ use lib.Dec.{eqb}
 use lib.ListN.{length}
 use borrow.Author.Tests.{eqb-false, eq-eqb, ne_eqb, le-leb, lt-leb}
 use Rattle.machine.specs.declared.Colour.TheVariants.{Free}
-use Rattle.machine.specs.Tests.{if◌then◌else◌, ◌▷◌}
+use Rattle.std.specs.Prelude.{if◌then◌else◌}
+use Rattle.machine.specs.Tests.{◌▷◌}
 use Rattle.machine.specs.Block.{word_of}
 use Rattle.machine.specs.Colouring.{free_colour}
 use Rattle.machine.specs.Heap.{Heap}

@@ -17,7 +17,8 @@ use lib.Dec.{leb}
 use lib.ListN.{get_or, replicate}
 use borrow.Author.Tests.{eq-eqb, ne_eqb, le-leb, lt-leb, leb-true}
 use Rattle.machine.specs.declared.Colour.TheVariants.{Free}
-use Rattle.machine.specs.Tests.{if◌then◌else◌, ◌▷◌}
+use Rattle.std.specs.Prelude.{if◌then◌else◌}
+use Rattle.machine.specs.Tests.{◌▷◌}
 use Rattle.machine.specs.Block.{word_of, byte_of, bit, with_bit}
 use Rattle.machine.specs.Heap.{Heap, colour_of}
 use Rattle.machine.specs.Entry.{entry, holder_place}

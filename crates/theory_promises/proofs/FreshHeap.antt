@@ -17,7 +17,7 @@ use lib.ListN.{length, get_or, replicate, length-append, length-replicate, get_o
 use lib.Seq.{get_or-append-add}
 use borrow.Author.Tests.{eq-eqb, ne_eqb}
 use Rattle.machine.specs.declared.Colour.TheVariants.{Free}
-use Rattle.machine.specs.Tests.{if◌then◌else◌}
+use Rattle.std.specs.Prelude.{if◌then◌else◌}
 use Rattle.machine.specs.Registers.{idle}
 use Rattle.machine.specs.Block.{word_of, byte_of, bit, free_words}
 use Rattle.machine.specs.Colouring.{coloured, colour_in, fresh_colours}

@@ -11,7 +11,7 @@ use native.Mathlib.Omega.{arith}
 use lib.Dec.{eqb}
 use borrow.Author.Tests.{eq-eqb, ne_eqb}
 use Rattle.machine.specs.declared.Colour.TheVariants.{White, Grey, Black, Outside}
-use Rattle.machine.specs.Tests.{if◌then◌else◌}
+use Rattle.std.specs.Prelude.{if◌then◌else◌}
 use Rattle.machine.specs.Registers.{idle, marking}
 use Rattle.machine.specs.Colouring.{Colouring, coloured, colour_in, to_grey, to_black, first_grey, grey_white, grey_all}
 use Rattle.machine.specs.Heap.{Heap, colouring, colour_of, references_of}

@@ -18,7 +18,7 @@ use native.Mathlib.Omega.{arith}
 use lib.Dec.{eqb}
 use lib.ListN.{replicate}
 use borrow.Author.Tests.{eqb-true}
-use Rattle.machine.specs.Tests.{if◌then◌else◌}
+use Rattle.std.specs.Prelude.{if◌then◌else◌}
 use Rattle.machine.specs.Heap.{Heap}
 use Rattle.machine.specs.Answers.{Given, answering, refuse, done, unless}
 use Rattle.machine.specs.Units.{RunEnd, stopped, run}

@@ -23,7 +23,8 @@ use lib.ListN.{get_or, length}
 use borrow.Author.Tests.{eq-eqb, ne_eqb}
 use Rattle.machine.specs.declared.Regs.{Regs}
 use Rattle.machine.specs.declared.Colour.TheVariants.{Free}
-use Rattle.machine.specs.Tests.{if◌then◌else◌, ◌▷◌}
+use Rattle.std.specs.Prelude.{if◌then◌else◌}
+use Rattle.machine.specs.Tests.{◌▷◌}
 use Rattle.machine.specs.Registers.{marking}
 use Rattle.machine.specs.Block.{word_of}
 use Rattle.machine.specs.Heap.{Heap}

@@ -22,7 +22,8 @@ use lib.ListN.{length, set, length-set}
 use borrow.Author.Tests.{le-leb, leb-true, eqb-true, eqb-false}
 use Rattle.machine.specs.declared.Colour.{Colour}
 use Rattle.machine.specs.declared.Colour.TheVariants.{Free}
-use Rattle.machine.specs.Tests.{if◌then◌else◌, ◌▷◌}
+use Rattle.std.specs.Prelude.{if◌then◌else◌}
+use Rattle.machine.specs.Tests.{◌▷◌}
 use Rattle.machine.specs.Registers.{marking, with_grey, with_root}
 use Rattle.machine.specs.Block.{index, place, word_of, byte_of, bit, with_bit, without_bit}
 use Rattle.machine.specs.Colouring.{Colouring, grey_white, head_legal}

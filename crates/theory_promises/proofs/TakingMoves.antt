@@ -22,7 +22,8 @@ use lib.ListN.{length, set, length-set}
 use borrow.Author.Tests.{eq-eqb, ne_eqb}
 use Rattle.machine.specs.declared.Colour.{Colour}
 use Rattle.machine.specs.declared.Colour.TheVariants.{White, Grey, Black, Free, Outside}
-use Rattle.machine.specs.Tests.{if◌then◌else◌, ◌▷◌}
+use Rattle.std.specs.Prelude.{if◌then◌else◌}
+use Rattle.machine.specs.Tests.{◌▷◌}
 use Rattle.machine.specs.Registers.{idle, marking, sweeping, with_free, with_count, with_root, raised}
 use Rattle.machine.specs.Block.{place, word_of, byte_of, with_bit}
 use Rattle.machine.specs.Colouring.{free_colour, painted}

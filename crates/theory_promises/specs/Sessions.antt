@@ -7,8 +7,7 @@
 --     units_in ds, marks_in ds h     how many deeds are units, and how many of these take a block from the grey list
 -- A session that formats the heap anew goes on from there as a session from a fresh heap, and one that loads a heap as one from that.
 -- Assumes nothing.
-use Rattle.std.specs.Prelude.{ℕ, ◌+◌, ◌≡◌, ◌≢◌, ◌&&◌, not, List, [], ◌∷◌, ◌++◌, eqb}
-use Rattle.machine.specs.Tests.{if◌then◌else◌}
+use Rattle.std.specs.Prelude.{ℕ, ◌+◌, ◌≡◌, ◌≢◌, ◌&&◌, not, List, [], ◌∷◌, ◌++◌, eqb, if◌then◌else◌}
 use Rattle.machine.specs.Registers.{idle, marking}
 use Rattle.machine.specs.Heap.{Heap}
 use Rattle.machine.specs.Session.{Call, does}

@@ -3,10 +3,9 @@
 --     view h               the abstract heap of h: phase, position, root, mark, a colour for each block, its words and reference bits
 --     Shape h              what a well-formed heap has besides a sound view: legal registers and colours, and the two lists
 -- Assumes nothing.
-use Rattle.std.specs.Prelude.{ℕ, ◌≡◌, ◌≢◌, ◌&&◌, leb, length}
+use Rattle.std.specs.Prelude.{ℕ, ◌≡◌, ◌≢◌, ◌&&◌, leb, length, if◌then◌else◌}
 use Rattle.machine.specs.declared.Colour.{Colour}
 use Rattle.machine.specs.declared.Colour.TheVariants.{White, Grey, Black, Free, Outside}
-use Rattle.machine.specs.Tests.{if◌then◌else◌}
 use Rattle.machine.specs.Block.{word_of, byte_of, bit}
 use Rattle.machine.specs.Colouring.{GreysOf}
 use Rattle.machine.specs.Heap.{Heap, colouring, colour_of}

@@ -19,7 +19,7 @@ use lib.Dec.{eqb}
 use lib.ListN.{length, set, length-set}
 use lib.Seq.{get_or-set_same, get_or-set_other}
 use borrow.Author.Tests.{eq-eqb, ne_eqb, eqb-true}
-use Rattle.machine.specs.Tests.{if◌then◌else◌}
+use Rattle.std.specs.Prelude.{if◌then◌else◌}
 use Rattle.machine.specs.Block.{is_block, index}
 use Rattle.machine.specs.WellFormed.{Block}
 use Rattle.machine.specs.Search.{Found, found, came_to, meet, visit_from, visit}

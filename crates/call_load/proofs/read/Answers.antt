@@ -17,9 +17,8 @@ get_fours-requires-2 c =
     let l = laid_length c.requires.0 in search rules
 
 pub returns : goal.returns
-returns c =
-    (
-      words_read c.requires.0 c.requires.1 c.words_at.ensures c.get_fours-2.ensures,
-      colours_read c.requires.0 c.requires.2 c.get_fours.ensures,
-      bytes_read c.requires.0 c.requires.3 c.bytes_at.ensures c.get_bytes.ensures,
-    )
+returns c = (
+  words_read c.requires.0 c.requires.1 c.words_at.ensures c.get_fours-2.ensures,
+  colours_read c.requires.0 c.requires.2 c.get_fours.ensures,
+  bytes_read c.requires.0 c.requires.3 c.bytes_at.ensures c.get_bytes.ensures,
+)

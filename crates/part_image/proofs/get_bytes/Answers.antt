@@ -11,12 +11,11 @@ pub loop-k-init : goal.loop-k-init
 loop-k-init c = (search rules, search rules, refl)
 
 pub loop-k-preserved : goal.loop-k-preserved
-loop-k-preserved c =
-    (
-      omega arith,
-      simp length-set c.loop-k.invariant.1,
-      bytes_more c.args.at c.loop-k.k c.args.image.now c.args.to.now (omega arith) (omega arith) c.loop-k.invariant.2,
-    )
+loop-k-preserved c = (
+  omega arith,
+  simp length-set c.loop-k.invariant.1,
+  bytes_more c.args.at c.loop-k.k c.args.image.now c.args.to.now (omega arith) (omega arith) c.loop-k.invariant.2,
+)
 
 pub shape_of-to : goal.shape_of-to
 shape_of-to c = c.loop-k.invariant.1

@@ -10,12 +10,11 @@ pub loop-k-init : goal.loop-k-init
 loop-k-init c = (search rules, search rules, placed_none _ _)
 
 pub loop-k-preserved : goal.loop-k-preserved
-loop-k-preserved c =
-    (
-      omega arith,
-      simp length-set c.loop-k.invariant.1,
-      bytes_on c.args.at c.loop-k.k c.args.xs.now c.args.out.now (omega arith) (omega arith) (omega arith) c.loop-k.invariant.2,
-    )
+loop-k-preserved c = (
+  omega arith,
+  simp length-set c.loop-k.invariant.1,
+  bytes_on c.args.at c.loop-k.k c.args.xs.now c.args.out.now (omega arith) (omega arith) (omega arith) c.loop-k.invariant.2,
+)
 
 pub shape_of-out : goal.shape_of-out
 shape_of-out c = c.loop-k.invariant.1

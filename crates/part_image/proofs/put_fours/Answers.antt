@@ -11,12 +11,11 @@ unfolding fours_of
 loop-k-init c = (search rules, search rules, placed_none _ _)
 
 pub loop-k-preserved : goal.loop-k-preserved
-loop-k-preserved c =
-    (
-      omega arith,
-      omega arith,
-      fours_on c.args.at c.loop-k.k c.args.xs.now c.args.out.now (omega arith) (omega arith) c.loop-k.invariant.2 c.put_four.ensures,
-    )
+loop-k-preserved c = (
+  omega arith,
+  omega arith,
+  fours_on c.args.at c.loop-k.k c.args.xs.now c.args.out.now (omega arith) (omega arith) c.loop-k.invariant.2 c.put_four.ensures,
+)
 
 pub shape_of-out : goal.shape_of-out
 shape_of-out c = c.loop-k.invariant.1

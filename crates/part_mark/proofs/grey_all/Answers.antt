@@ -40,8 +40,7 @@ pub loop-rest-preserved : goal.loop-rest-preserved
 loop-rest-preserved c =
     let n = c.loop-rest-test.true in
     let f = c.loop-rest.invariant.0 in
-    let l = lowest_less _ _ f n refl in
-    (
+    let l = lowest_less _ _ f n refl in (
       omega arith,
       c.grey_white-g.auto.colours ∙ c.loop-rest.invariant.1,
       named_on c.args.part.now _ _ f n refl _ c.loop-rest.invariant.2,

@@ -22,15 +22,14 @@ returns-in_default c =
     loop_off _ _ c.loop-left.s _ c.loop-left.colours _ _ _ c.loop-left.invariant.5 _ _ _ c.mark_unit.ensures c.in_default.is (c.loop-left.left - 1) (omega arith) (omega arith)
 
 pub loop-left-preserved : goal.loop-left-preserved
-loop-left-preserved c =
-    (
-      omega arith,
-      c.mark_unit.auto.colours ∙ c.loop-left.invariant.1,
-      done_kept _ c.loop-left.invariant.2 _ _ _ _ _ _ c.mark_unit.ensures c.in-Done.is,
-      done_marking _ _ _ _ _ _ c.mark_unit.ensures c.in-Done.is c.loop-left.invariant.3 c.if-s-ne-NO_GREY.true,
-      λ e. absurd (omega arith),
-      loop_on _ _ c.loop-left.s _ c.loop-left.colours _ _ _ c.loop-left.invariant.5 _ _ _ c.mark_unit.ensures _ c.in-Done.is _ _ (omega arith) (omega arith),
-    )
+loop-left-preserved c = (
+  omega arith,
+  c.mark_unit.auto.colours ∙ c.loop-left.invariant.1,
+  done_kept _ c.loop-left.invariant.2 _ _ _ _ _ _ c.mark_unit.ensures c.in-Done.is,
+  done_marking _ _ _ _ _ _ c.mark_unit.ensures c.in-Done.is c.loop-left.invariant.3 c.if-s-ne-NO_GREY.true,
+  λ e. absurd (omega arith),
+  loop_on _ _ c.loop-left.s _ c.loop-left.colours _ _ _ c.loop-left.invariant.5 _ _ _ c.mark_unit.ensures _ c.in-Done.is _ _ (omega arith) (omega arith),
+)
 
 pub shape_of-colours : goal.shape_of-colours
 shape_of-colours c = c.loop-left.invariant.1
@@ -38,7 +37,7 @@ shape_of-colours c = c.loop-left.invariant.1
 pub returns : goal.returns
 returns c =
     let some : c.loop-left.left ≢ c.args.n = λ e. elim c.loop-left-test.branch [
-      then-loop-left-test+else-s-ne-NO_GREY w ↦ c.loop-left.invariant.4 e w.if-s-ne-NO_GREY.false
-    | else-loop-left-test w ↦ absurd (omega arith)
+      | then-loop-left-test+else-s-ne-NO_GREY w ↦ c.loop-left.invariant.4 e w.if-s-ne-NO_GREY.false
+      | else-loop-left-test w ↦ absurd (omega arith)
     ] in
     went_on _ _ _ _ _ _ _ _ (omega arith) (omega arith) (omega arith) c.loop-left.invariant.2 c.loop-left.invariant.5

@@ -53,8 +53,8 @@ loop-rest-preserved c =
     let n = c.loop-rest-test.true in
     let l = lowest_sub _ _ c.loop-rest.invariant.0 n refl in
     elim c.match-seen.branch [
-      in-Settled w ↦ rw w.white-is (omega arith, omega arith, λ g. c.loop-rest.invariant.2 g ∙ come_settled (coloured c.args.m g c.args.colours.now) c.args.part.now _ _ c.loop-rest.invariant.0 n refl _ (c.seen.ensures g) c.loop-rest.white w.in-Settled.is)
-    | in-ToGrey w ↦ rw w.white-is (omega arith, omega arith, λ g. c.loop-rest.invariant.2 g ∙ come_white (coloured c.args.m g c.args.colours.now) c.args.part.now _ _ c.loop-rest.invariant.0 n refl _ (c.seen.ensures g) c.loop-rest.white w.in-ToGrey.is)
+      | in-Settled w ↦ rw w.white-is (omega arith, omega arith, λ g. c.loop-rest.invariant.2 g ∙ come_settled (coloured c.args.m g c.args.colours.now) c.args.part.now _ _ c.loop-rest.invariant.0 n refl _ (c.seen.ensures g) c.loop-rest.white w.in-Settled.is)
+      | in-ToGrey w ↦ rw w.white-is (omega arith, omega arith, λ g. c.loop-rest.invariant.2 g ∙ come_white (coloured c.args.m g c.args.colours.now) c.args.part.now _ _ c.loop-rest.invariant.0 n refl _ (c.seen.ensures g) c.loop-rest.white w.in-ToGrey.is)
     ]
 
 pub returns : goal.returns

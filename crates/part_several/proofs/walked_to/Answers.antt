@@ -35,11 +35,10 @@ bounds-words-a c =
     let k = (fits_block _ _ _ c.loop-left.invariant.0 (so (c.fits_at.ensures 1) c.if-fits_at.true)).0 in search rules
 
 pub loop-left-preserved : goal.loop-left-preserved
-loop-left-preserved c =
-    (
-      fits_next _ _ _ c.loop-left.invariant.0 (so (c.fits_at.ensures 1) c.if-fits_at.true),
-      λ g. walked_on _ _ _ _ _ _ (c.loop-left.invariant.1 g) _ (omega arith) (so (c.fits_at.ensures g) c.if-fits_at.true),
-    )
+loop-left-preserved c = (
+  fits_next _ _ _ c.loop-left.invariant.0 (so (c.fits_at.ensures 1) c.if-fits_at.true),
+  λ g. walked_on _ _ _ _ _ _ (c.loop-left.invariant.1 g) _ (omega arith) (so (c.fits_at.ensures g) c.if-fits_at.true),
+)
 
 pub returns-else-fits_at : goal.returns-else-fits_at
 returns-else-fits_at c =
