@@ -16,7 +16,7 @@ CFLAGS ?= -O2
 
 archive = target/staticlib/libdergamoyne.a
 version = $(shell sed -n 's/^.define DERGAMOYNE_VERSION_TEXT "\(.*\)"/\1/p' include/dergamoyne.h)
-sources = $(shell find crates -name '*.rt' -o -name '*.antt') crates.txt tools/archive
+sources = $(shell find crates -name out -prune -o -name '*.rt' -print -o -name '*.antt' -print) crates.txt tools/archive
 
 tool = target/tools/dergamoyne-heap
 page_parts = target/tools/page_parts.h
