@@ -1,5 +1,5 @@
-# make            proves the library and builds the archive target/staticlib/libdergamoyne.a (the first time it takes minutes), and the
-#                 program target/tools/dergamoyne-heap, which looks into a saved heap
+# make            proves the library and builds the archive target/staticlib/libdergamoyne.a (tools/archive; the first time it takes many
+#                 minutes), and the program target/tools/dergamoyne-heap, which looks into a saved heap
 # make check      tests the library from C, and the program
 # make example    builds the examples list, objects, spare, why and midway of examples/c in target/c and runs them
 # make install    installs headers, archive, program, pkg-config file and manual pages under PREFIX (/usr/local unless you set it);
@@ -16,7 +16,7 @@ CFLAGS ?= -O2
 
 archive = target/staticlib/libdergamoyne.a
 version = $(shell sed -n 's/^.define DERGAMOYNE_VERSION_TEXT "\(.*\)"/\1/p' include/dergamoyne.h)
-sources = $(shell find crates -name '*.rt' -o -name '*.antt')
+sources = $(shell find crates -name out -prune -o -name '*.rt' -print -o -name '*.antt' -print) crates.txt tools/archive
 
 tool = target/tools/dergamoyne-heap
 page_parts = target/tools/page_parts.h
@@ -24,7 +24,7 @@ page_parts = target/tools/page_parts.h
 all: $(archive) $(tool)
 
 $(archive): $(sources)
-	rt staticlib dergamoyne
+	tools/archive
 	touch $@
 
 $(page_parts): tools/embed.awk tools/page.css tools/page.js

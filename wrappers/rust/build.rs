@@ -1,5 +1,5 @@
 //! Links libdergamoyne.a: from the folder that DERGAMOYNE_LIB names, or else from the repository's target/staticlib, where
-//! `rt staticlib dergamoyne` writes it.
+//! `tools/archive` writes it.
 use std::env;
 use std::path::PathBuf;
 
@@ -9,7 +9,7 @@ fn main() {
     });
     let archive = folder.join("libdergamoyne.a");
     if !archive.exists() {
-        println!("cargo:warning=there is no {}: make it by `rt staticlib dergamoyne`", archive.display());
+        println!("cargo:warning=there is no {}: make it by `tools/archive`", archive.display());
     }
     println!("cargo:rustc-link-search=native={}", folder.display());
     println!("cargo:rustc-link-lib=static=dergamoyne");
