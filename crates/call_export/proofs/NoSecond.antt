@@ -1,5 +1,5 @@
 -- No second outcome fits a contract.
---     no-second-outcome
+--     no_second_outcome
 -- Assumes nothing.
 use Rattle.part_rows.proofs.Steps.{same_given, same_numbers}
 use Rattle.call_export.specs.NoSecond.{NoSecondOutcome}

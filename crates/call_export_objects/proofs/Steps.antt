@@ -1,6 +1,6 @@
 -- Laws of the definition: what numbers in range are, and one law for each way of a row's link.
---     InRange, fits_range  what numbers in range are.     range-low, range-high     the two ways of the test that they aren't
---     not-true, not-false  a test that came out the other way
+--     InRange, fits_range  what numbers in range are.     range_low, range_high     the two ways of the test that they aren't
+--     not_true, not_false  a test that came out the other way
 --     find_entry, find_place, find_off, find_ends     the ways in which a row is refused, or not
 --     link_refused, link_passed     the two ways of link_of
 --     follow_refused, follow_on, follow_number     the three ways of a row's link

@@ -1,5 +1,5 @@
 -- No second outcome fits the contract: two things equal to a third are equal.
---     no-second-outcome
+--     no_second_outcome
 -- Assumes nothing.
 use mathlib.Core.Path.{sym, ◌∙◌, ap}
 use Rattle.machine.specs.Save.{SaveGiven}

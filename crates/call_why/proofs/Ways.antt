@@ -3,7 +3,7 @@
 --     kept, reached        the two ways of a block that is allocated and not doomed
 --     long, part_length, cleared     the lent buffers: their lengths, their first M numbers, and cleared
 --     numbers_as           the call with its answer in numbers
---     told-live, told-gone the reason by the block's state: allocated and not doomed, or not
+--     told_live, told_gone the reason by the block's state: allocated and not doomed, or not
 -- Assumes nothing.
 use Prim.Native.Nat.{ℕ, ◌*◌, ◌-◌, ◌≤◌}
 use mathlib.Core.Path.{◌≡◌, refl, sym, ◌∙◌}

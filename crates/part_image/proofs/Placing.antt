@@ -2,8 +2,8 @@
 --     placed_none              nothing written
 --     placed_length            what is written into stays as long
 --     placed_on                bytes written behind others
---     placed_front             bytes written from the start;     placed-behind: others behind them
---     one_placed, four-placed  one byte stored, and the four bytes of a number
+--     placed_front             bytes written from the start;     placed_behind: others behind them
+--     one_placed, four_placed  one byte stored, and the four bytes of a number
 --     number_placed            the number that four bytes of a list say
 --     fours_on, fours_all      a loop that writes numbers: one more, and all
 --     bytes_on, bytes_all      a loop that writes single bytes

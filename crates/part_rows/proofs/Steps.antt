@@ -1,5 +1,5 @@
 -- Laws of the definition: one for each way of a link, and of a turn of an export's loop.
---     followed_to, followed_refused, followed_number     the three ways of followed.     to-followed    what a link that leads on says
+--     followed_to, followed_refused, followed_number     the three ways of followed.     to_followed    what a link that leads on says
 --     export_whole         an export at its start
 --     export_end, export_circle, export_full, export_off, export_on     the ways of export_from, where n of m rows are written
 --     numbers_as           an export with its answer in numbers

@@ -1,7 +1,7 @@
 -- Laws of a line's first piece: a letter alone, with a law for each way out of reading a line.
 --     letter_alone         a line that starts with one byte and a space, or is one byte
 --     too_long, no_byte, no_letter, no_gap     lines that don't
---     named-off, named-on  a letter with something else than numbers, with numbers
+--     named_off, named_on  a letter with something else than numbers, with numbers
 -- Assumes nothing.
 use Prim.Native.Nat.{ℕ, ◌≤◌, ◌<◌}
 use mathlib.Core.Path.{◌≡◌, refl, sym, ◌∙◌}

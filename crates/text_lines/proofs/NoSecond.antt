@@ -1,5 +1,5 @@
 -- No second outcome fits the contract of `line`, and document 01's sentences on lines hold of what a line gives.
---     no-second-outcome
+--     no_second_outcome
 --     rules
 -- Assumes nothing.
 use Prim.Native.Nat.{ℕ, ◌*◌, ◌<◌}

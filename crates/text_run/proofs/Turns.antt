@@ -1,5 +1,5 @@
 -- Laws of a turn: a line that is whole, and one that is not.
---     turn-does, turn-waits
+--     turn_does, turn_waits
 -- Assumes nothing.
 use Prim.Native.Nat.{ℕ}
 use mathlib.Core.Path.{◌≡◌, refl, ◌∙◌, ap, subst}

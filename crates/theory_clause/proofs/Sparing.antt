@@ -3,7 +3,7 @@
 --     _also_                   a pair, to be written in a row
 --     Clear rows ys            the acts ys leave the root, these blocks, and the word that holds the list
 --     none, take_clear         no acts, and a block taken for another word of block 2
---     spares-rows, spares-word a call with such acts touches neither the root nor the blocks, nor the word
+--     spares_rows, spares_word a call with such acts touches neither the root nor the blocks, nor the word
 --     busy_untouched, busy_leaves     so does the session `busy`
 -- Assumes nothing.
 use Prim.Native.Nat.{ℕ, ◌≤◌}

@@ -1,5 +1,5 @@
 -- The turn and the sweep moves: how many of them a cycle has still to do.
---     ahead h              their number (ahead-idle, ahead-marking, ahead-sweeping: by phase)
+--     ahead h              their number (ahead_idle, ahead_marking, ahead_sweeping: by phase)
 --     move_ahead, run_ahead     in a cycle every unit but a mark lowers it by 1, and nothing else changes it
 --     move_ahead_most, run_ahead_most     from any heap, a bound
 -- All are stated with the span before and after: a take that raises the mark adds as much to one as to the other. A take on an idle heap raises

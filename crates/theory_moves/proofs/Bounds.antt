@@ -2,7 +2,7 @@
 --     pends                the weight: 1 for white and grey, else 0
 --     pending M h          the number of white and grey blocks
 --     all_blocks           allocated and free blocks are together M
---     due M h              the blocks that the cycle may still mark: those pending while marking, else none (due-marking, due-off)
+--     due M h              the blocks that the cycle may still mark: those pending while marking, else none (due_marking, due_off)
 --     move_pends           while marking, a block that pends after a move did so before
 --     move_due, run_due    every mark lowers it by at least 1, and no move of a cycle raises it
 --     begin_pends, begin_due    just after a beginning with A allocated blocks those pend: A are due

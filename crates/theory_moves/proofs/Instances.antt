@@ -191,7 +191,7 @@ rescue_kept d = go (freed_along d)
     go (inr (inr (inr (inl e)))) = never (cc)
     go (inr (inr (inr (inr z)))) = z
 
--- all that garbage-goes asks for holds of it, but for this
+-- all that garbage_goes asks for holds of it, but for this
 pub rescue_improper : ProperRun rescue → ⊥
 rescue_improper p = out_of_reach 1 0 White (p.0 (λ z. absurd (omega arith)))
 

@@ -10,7 +10,7 @@
 -- block at or below the mark (short): at most K + P + 2 where those are at most P. All takes since this cycle began, but for those of the event
 -- that it began in, at most B, were paid for in it (paid); all takes of both cycles, but for those of the event that the earlier one began in, in
 -- the two (both). A beginning finds only blocks that were reachable at the beginning before, at most K, and those taken since (cover, listed,
--- room). Units leave the mark where it is, so work-ledger asks once that at most P blocks are at or below it; acts may raise it.
+-- room). Units leave the mark where it is, so work_ledger asks once that at most P blocks are at or below it; acts may raise it.
 -- Assumes nothing.
 use Prim.Native.Nat.{ℕ, ◌+◌, ◌*◌, ◌≤◌}
 use mathlib.Core.Path.{◌≡◌}

@@ -1,6 +1,6 @@
 -- A word written in a block, and what the calls see of the heap afterwards.
 --     Unseen h k               no refusal tells k from h.        none_seen     h itself
---     barrier_unseen           the barrier is unseen.        barrier-words, barrier-bytes     it leaves the words and the bytes
+--     barrier_unseen           the barrier is unseen.        barrier_words, barrier_bytes     it leaves the words and the bytes
 --     Wrote a w h k            k is h with word w of the block a written, which no refusal sees
 --     wrote_number, wrote_reference     a number and a reference written
 --     wrote_after              unseen changes before it

@@ -1,7 +1,7 @@
 -- What the end of marking and a unit of the sweep keep of the registers: all but phase and position.
 --     colours_same                     the same M and the same grey head make the same colouring
 --     turned_same, advance_same        a register that doesn't depend on phase and position stays
---     turned-colours, advance-colours  so does the colouring
+--     turned_colours, advance_colours  so does the colouring
 -- Assumes nothing.
 use Prim.Native.Nat.{ℕ, ◌+◌}
 use mathlib.Core.Path.{◌≡◌, refl, ◌∙◌}

@@ -1,7 +1,7 @@
 -- The stores and Set root are moves. Each keeps the heap's shape.
 --     written b w v byte h     h with one word and the reference byte of one block written
 --     word_as                  a word as the view shows it
---     cells-join, holds_after  cells that stay the same twice; a word written after a step in which the block's cells stayed the same
+--     cells_join, holds_after  cells that stay the same twice; a word written after a step in which the block's cells stayed the same
 --     written_shape, written_holds, written_others     a write into a block that isn't free: the shape, the word, and all other words
 --     live_taken               a live block isn't free
 --     Writable h b w           b is live and w at most 7
@@ -9,7 +9,7 @@
 --     barred t h               the colouring that the barrier leaves
 --     barrier_as               the barrier changes the colouring alone
 --     number_move, number_shape        Store number
---     reference-move, reference-shape  Store reference
+--     reference_move, reference_shape  Store reference
 --     root_move, root_shape            Set root
 -- Assumes nothing.
 use Prim.Native.Nat.{ℕ, ◌≤◌}

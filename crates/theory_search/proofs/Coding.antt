@@ -1,6 +1,6 @@
 -- A path's words as one number, in base 8 behind a 1: the shorter path has the smaller number, and of two equally short ones the one
 -- with the smaller words from the root on.
---     Small ps             no word of ps is above 7;     small-leads: no word of a path is
+--     Small ps             no word of ps is above 7;     small_leads: no word of a path is
 --     code_from c ps        the words of ps behind the number c
 --     code_low             it is at least c
 --     code_shorter         a shorter path has a smaller number

@@ -3,7 +3,7 @@
 --     rising_low, rising_in     lo is at most hi, and a member's number lies between
 --     rising_one           members with one number are one
 --     rising_before, rising_after     a member in front of b has a smaller number, one behind it a larger
---     rising_on            a block more at the end;     rising-up   a higher bound
+--     rising_on            a block more at the end;     rising_up   a higher bound
 --     rising_same          the same with other numbers that agree on the list
 --     rising_distinct      no block stands twice in it
 -- Assumes nothing.

@@ -1,5 +1,5 @@
 -- The reason, by what the block is.
---     state_colour             a state says the colour;     live-number: and its number, of a live block
+--     state_colour             a state says the colour;     live_number: and its number, of a live block
 --     came_reachable, reachable_came, out_came     a block is reachable exactly where the search came to it
 --     reach_reason, keep_reason     the reason of a reachable block, and that of a live block out of reach
 --     Case, the_case           of a block of a well-formed heap one of four things holds: it is free, doomed, reachable, or kept
