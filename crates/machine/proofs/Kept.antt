@@ -17,8 +17,8 @@ use borrow.Author.Tests.{eq-eqb, ne_eqb, eqb-false}
 use Rattle.machine.specs.declared.Regs.{Regs}
 use Rattle.machine.specs.declared.Colour.{Colour}
 use Rattle.machine.specs.declared.Colour.TheVariants.{White, Grey, Free}
-use Rattle.machine.specs.declared.Progress.{Progress}
-use Rattle.machine.specs.declared.Progress.TheVariants.{Done}
+use Rattle.std.specs.Prelude.{Result, Ok}
+use Rattle.machine.specs.declared.Damaged.{Damaged}
 use Rattle.machine.specs.Registers.{idle, marking, sweeping, with_phase, with_cycle, next_cycle, sweep_end}
 use Rattle.machine.specs.Block.{with_eight, free_words, clear_byte}
 use Rattle.machine.specs.Colouring.{Colouring, colour, colour_in, white_colour, painted, to_grey, to_black, first_grey, grey_white, grey_all, head_legal}
@@ -175,10 +175,10 @@ unit_kept h d =
     d
 
 -- the same of a unit that answered
-pub done_kept : (h : Heap) → Ready h → (r s : Regs) (ws cs bs : List ℕ) (p : Progress) → ended r p ws cs bs ≡ unit h → p ≡ Done s → Ready (heap s ws cs bs)
+pub done_kept : (h : Heap) → Ready h → (r s : Regs) (ws cs bs : List ℕ) (p : Result Regs Damaged) → ended r p ws cs bs ≡ unit h → p ≡ Ok s → Ready (heap s ws cs bs)
 unfolding ended
 done_kept h d r s ws cs bs p e q =
-    subst (λ (u : UnitEnd). Ready u.heap) (sym e ∙ ap (λ (x : Progress). ended r x ws cs bs) q) (unit_kept h d)
+    subst (λ (u : UnitEnd). Ready u.heap) (sym e ∙ ap (λ (x : Result Regs Damaged). ended r x ws cs bs) q) (unit_kept h d)
 
 -- units in a row keep it too
 pub run_kept : (n i : ℕ) (h : Heap) → Ready h → Ready (run n i h).heap

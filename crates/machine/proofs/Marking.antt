@@ -14,7 +14,8 @@ use lib.Count.{count_trailing_zeros}
 use lib.ListN.{get_or}
 use Rattle.machine.specs.declared.Regs.{Regs}
 use Rattle.machine.specs.declared.Step.TheVariants.{Mark}
-use Rattle.machine.specs.declared.Progress.TheVariants.{Done, Damaged}
+use Rattle.std.specs.Prelude.{Ok, Err}
+use Rattle.machine.specs.declared.Damaged.{Damaged}
 use Rattle.machine.specs.Registers.{with_grey}
 use Rattle.machine.specs.Block.{byte_of, eight_words, references}
 use Rattle.machine.specs.Colouring.{Colouring, coloured, to_black, grey_white, grey_all}
@@ -66,10 +67,10 @@ module _ (r : Regs) (ws cs bs part : List ℕ) (same : part ≡ eight_words ws r
   -- the code greys over some of the references, which changes as much as greying over all of them
   pub mark_done : {k j : Colouring} {s : Regs} → all_sound here refs ≡ true
       → k ≡ to_black here → j ≡ grey_all refs k → s ≡ with_grey j.head r
-      → ended r (Done s) ws j.cells bs ≡ act Mark (heap r ws cs bs)
+      → ended r (Ok s) ws j.cells bs ≡ act Mark (heap r ws cs bs)
   unfolding act ended marked
   mark_done a b g q = simp (rw same at a) (rw (q, g, b, same) refl)
 
-  pub mark_damaged : all_sound here refs ≡ false → ended r Damaged ws cs bs ≡ act Mark (heap r ws cs bs)
+  pub mark_damaged : (d : Damaged) → all_sound here refs ≡ false → ended r (Err d) ws cs bs ≡ act Mark (heap r ws cs bs)
   unfolding act ended
-  mark_damaged a = simp (rw same at a)
+  mark_damaged d a = simp (rw same at a)

@@ -12,7 +12,8 @@ use borrow.Author.Tests.{eq-eqb, ne_eqb}
 use Rattle.machine.specs.declared.Regs.{Regs}
 use Rattle.machine.specs.declared.Colour.TheVariants.{White, Free}
 use Rattle.machine.specs.declared.Step.TheVariants.{Reclaim}
-use Rattle.machine.specs.declared.Progress.TheVariants.{Done, Damaged}
+use Rattle.std.specs.Prelude.{Ok, Err}
+use Rattle.machine.specs.declared.Damaged.{Damaged}
 use Rattle.machine.specs.Registers.{idle, marking, sweeping, with_phase, with_grey, with_free, with_count, with_position, with_cycle, next_cycle, sweep_end}
 use Rattle.machine.specs.Block.{with_eight, free_words, clear_byte}
 use Rattle.machine.specs.Colouring.{Colouring, coloured, painted, to_grey}
@@ -37,13 +38,13 @@ module _ (r : Regs) (ws cs bs : List ℕ) where
   unfolding turned turned_regs
   turn_sweeps e z = simp (ne_eqb (sweep_end r) 1 (λ q. z (e ∙ q)))
 
-  pub reclaim_full : r.count ≡ r.blocks → ended r Damaged ws cs bs ≡ act Reclaim (heap r ws cs bs)
+  pub reclaim_full : (d : Damaged) → r.count ≡ r.blocks → ended r (Err d) ws cs bs ≡ act Reclaim (heap r ws cs bs)
   unfolding act ended
-  reclaim_full e = simp (eq-eqb r.count r.blocks e)
+  reclaim_full d e = simp (eq-eqb r.count r.blocks e)
 
   pub reclaim_done : {s : Regs} {ws' cs' bs' : List ℕ} → r.count ≢ r.blocks → ws' ≡ with_eight ws r.position (free_words r.free)
       → cs' ≡ (painted r.position Free (coloured r.blocks r.grey cs)).cells → bs' ≡ clear_byte bs r.position
-      → s ≡ advance (with_count (r.count + 1) (with_free r.position r)) → ended r (Done s) ws' cs' bs' ≡ act Reclaim (heap r ws cs bs)
+      → s ≡ advance (with_count (r.count + 1) (with_free r.position r)) → ended r (Ok s) ws' cs' bs' ≡ act Reclaim (heap r ws cs bs)
   unfolding act ended reclaimed
   reclaim_done n a b d e = rw (a, b, d, e) (simp (ne_eqb r.count r.blocks n))
 

@@ -1,6 +1,7 @@
 -- The machine of documents 01 and 02, one notion a file. Read in this order.
 -- Ready, Seen and Searched are of neither document: they say what parts of the code leave to each other.
 pub mod Tests
+pub mod Refusal
 pub mod Rounding
 pub mod Registers
 pub mod Block

@@ -4,16 +4,15 @@
 --     met_block r k, met_word h     the block that the unit meets first, and its colour word (white where there is none)
 --     begun, marked, turned, reclaimed, whitened, passed     the heap after each step
 --     unit h               one unit: every test before the first write
---     ended r o ws cs bs   what an answered Progress means, with the registers before and the buffers afterwards
+--     ended r o ws cs bs   what a unit's answer means, with the registers before and the buffers afterwards
 -- Assumes nothing.
-use Rattle.std.specs.Prelude.{ℕ, ◌+◌, Bool, true, false, ◌&&◌, ◌||◌, List, [], ◌∷◌, eqb, if◌then◌else◌}
+use Rattle.std.specs.Prelude.{ℕ, ◌+◌, Bool, true, false, ◌&&◌, ◌||◌, List, [], ◌∷◌, Result, Ok, Err, eqb, if◌then◌else◌}
 use Rattle.machine.specs.declared.Regs.{Regs}
 use Rattle.machine.specs.declared.Colour.{Colour}
 use Rattle.machine.specs.declared.Colour.TheVariants.{White, Grey, Black, Free, Outside}
 use Rattle.machine.specs.declared.Step.{Step}
 use Rattle.machine.specs.declared.Step.TheVariants.{Begin, Mark, Turn, Reclaim, Whiten, Pass, Damage}
-use Rattle.machine.specs.declared.Progress.{Progress}
-use Rattle.machine.specs.declared.Progress.TheVariants.{Done, Damaged}
+use Rattle.machine.specs.declared.Damaged.{Damaged}
 use Rattle.machine.specs.Registers.{idle, marking, sweeping, with_phase, with_free, with_count, with_position, with_cycle, next_cycle, sweep_end}
 use Rattle.machine.specs.Block.{is_block, with_eight, free_words, clear_byte}
 use Rattle.machine.specs.Colouring.{Colouring, white, colour, word_in, painted, to_grey, to_black, first_grey, grey_all, is_allocated}
@@ -132,6 +131,6 @@ act Damage h = damage h
 unfoldable pub unit : Heap → UnitEnd
 unit h = act (step h.regs.blocks h.regs.phase h.regs.grey (met_word h)) h
 
-unfoldable pub ended : Regs → Progress → List ℕ → List ℕ → List ℕ → UnitEnd
-ended r (Done s) ws cs bs = finish (heap s ws cs bs)
-ended r Damaged ws cs bs = damage (heap r ws cs bs)
+unfoldable pub ended : Regs → Result Regs Damaged → List ℕ → List ℕ → List ℕ → UnitEnd
+ended r (Ok s) ws cs bs = finish (heap s ws cs bs)
+ended r (Err d) ws cs bs = damage (heap r ws cs bs)

@@ -3,7 +3,9 @@
 #![tactic(auto)]
 
 ghost use Rattle.std.specs.Prelude.{◌≡◌};
+ghost use Rattle.machine.specs.declared.Refusal.TheVariants.{Damage};
 ghost use Rattle.machine.specs.Registers.{with_grey};
+ghost use Rattle.machine.specs.Refusal.{number};
 
 // The largest heap, pace and count of units that Work takes.
 pub const MOST_BLOCKS: u32 = 16_384;
@@ -43,32 +45,40 @@ pub const BLACK: u32 = 4_294_967_295;
 
 pub const FREE: u32 = 4_294_967_294;
 
-// The refusal numbers, by what they say: M, U or a length doesn't fit; the registers aren't legal; there is no such block or word;
-// the target is neither 0 nor a block; the block is free or doomed; the target is; no block is free; a colour or link met is outside
-// the layout; Work is asked for too many units.
-pub const UNFIT: u32 = 1;
+// Why a call is refused. As a number each is the refusal number of document 01, and the last two of document 02.
+#[derive(Clone, Copy, PartialEq, Eq)]
+pub enum Refusal {
+    // M, U or a length doesn't fit.
+    Unfit = 1,
+    // The registers aren't legal.
+    Illegal = 2,
+    // There is no such block or word.
+    NoPlace = 3,
+    // The target is neither 0 nor a block.
+    NoTarget = 4,
+    // The block is free or doomed.
+    Gone = 5,
+    // The target is.
+    TargetGone = 6,
+    // No block is free.
+    NoRoom = 7,
+    // A colour or link met is outside the layout.
+    Damage = 8,
+    // Work is asked for too many units.
+    TooManyUnits = 9,
+    // The heap or the image is none that the audit accepts.
+    BadHeap = 10,
+    // A lent buffer has another length than it should, or is too short.
+    BadLength = 13,
+}
 
-pub const ILLEGAL: u32 = 2;
+impl From<Refusal> for u32 {
+    ghost from_gives = { λ r n. n ≡ number r };
 
-pub const NO_PLACE: u32 = 3;
-
-pub const NO_TARGET: u32 = 4;
-
-pub const GONE: u32 = 5;
-
-pub const TARGET_GONE: u32 = 6;
-
-pub const NO_ROOM: u32 = 7;
-
-pub const DAMAGE: u32 = 8;
-
-pub const TOO_MANY_UNITS: u32 = 9;
-
-// Those of document 02: the heap or the image is none that the audit accepts; a lent buffer has another length than it should, or is
-// too short.
-pub const BAD_HEAP: u32 = 10;
-
-pub const BAD_LENGTH: u32 = 13;
+    fn from(r: Refusal) -> u32 {
+        r as u32
+    }
+}
 
 // The numbers by which a state is told to the host.
 pub const TOLD_LIVE_WHITE: u32 = 1;
@@ -94,7 +104,7 @@ pub const WHY_KEPT: u32 = 4;
 
 // The register record, in document 01's order, then the mark: the highest block handed out since format.
 #[repr(C)]
-#[derive(Clone, Copy)]
+#[derive(Clone, Copy, Default, PartialEq, Eq)]
 pub struct Regs {
     pub blocks: u32,
     pub pace: u32,
@@ -153,7 +163,7 @@ pub struct Outcome {
 }
 
 // What a colour word means.
-#[derive(Clone, Copy)]
+#[derive(Clone, Copy, PartialEq, Eq)]
 pub enum Colour {
     White,
     Grey,
@@ -229,17 +239,22 @@ pub enum Seen {
     Damaged,
 }
 
-// What a unit answers: the registers after it, or that it met damage and did nothing.
-#[derive(Clone, Copy)]
-pub enum Progress {
-    Done(Regs),
-    Damaged,
+// A unit met damage, and did nothing. Where it is none, a unit answers the registers after it.
+#[derive(Clone, Copy, PartialEq, Eq)]
+pub struct Damaged;
+
+impl From<Damaged> for Refusal {
+    ghost from_gives = { λ d r. r ≡ Damage };
+
+    fn from(_: Damaged) -> Refusal {
+        Refusal::Damage
+    }
 }
 
-// What a run of units answers: the registers after it, the units finished, and 8 where damage ended it, else 0.
+// What units in a row answer: the registers after them, the units finished, and whether damage ended them.
 #[derive(Clone, Copy)]
 pub struct Ran {
     pub regs: Regs,
     pub units: u32,
-    pub refusal: u32,
+    pub end: Result<(), Damaged>,
 }
