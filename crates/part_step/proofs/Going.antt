@@ -12,9 +12,8 @@ use mathlib.Core.Logic.{◌≢◌}
 use mathlib.Core.List.{List}
 use native.Mathlib.Omega.{arith}
 use Rattle.machine.specs.declared.Regs.{Regs}
-use Rattle.machine.specs.declared.Progress.{Progress}
-use Rattle.machine.specs.declared.Progress.TheVariants.{Done}
-use Rattle.machine.specs.declared.Progress.TheVariants as progress
+use Rattle.machine.specs.declared.Damaged.{Damaged}
+use Rattle.machine.specs.declared.Ran.{Ran}
 use Rattle.machine.specs.Registers.{marking}
 use Rattle.machine.specs.Heap.{Heap, heap}
 use Rattle.machine.specs.Ready.{Ready}
@@ -23,21 +22,19 @@ use Rattle.machine.specs.Units.{run, stopped}
 use Rattle.machine.proofs.Steps.{never}
 use Rattle.machine.proofs.Running.{marking_stays}
 use Rattle.machine.proofs.Kept.{done_kept}
-use Rattle.part_step.specs.declared.End.{End}
-use Rattle.part_step.specs.declared.End.TheVariants.{Finished, Damaged}
-use Rattle.part_step.specs.declared.Stretch.{Stretch}
+use Rattle.std.specs.Prelude.{Result, Ok, Err}
 use Rattle.part_step.specs.Going.{left_by, Went}
 
-abbrev pub went : Regs → ℕ → End → Stretch
+abbrev pub went : Regs → ℕ → Result (Unit {0}) Damaged → Ran
 went s i e = record { regs = s; units = i; end = e }
 
 -- a unit done, of a run with units left
-unit_on : (h : Heap) (r s : Regs) (ws cs bs : List ℕ) (k i : ℕ) {p : Progress} → ended r p ws cs bs ≡ unit h → p ≡ Done s
+unit_on : (h : Heap) (r s : Regs) (ws cs bs : List ℕ) (k i : ℕ) {p : Result Regs Damaged} → ended r p ws cs bs ≡ unit h → p ≡ Ok s
     → run (suc k) i h ≡ run k (i + 1) (heap s ws cs bs)
 unfolding run ended
 unit_on h r s ws cs bs k i e d = rw (← e, d) refl
 
-unit_off : (h : Heap) (r : Regs) (ws cs bs : List ℕ) (k i : ℕ) {p : Progress} → ended r p ws cs bs ≡ unit h → p ≡ progress.Damaged
+unit_off : (h : Heap) (r : Regs) (ws cs bs : List ℕ) (k i : ℕ) {p : Result Regs Damaged} {d : Damaged} → ended r p ws cs bs ≡ unit h → p ≡ Err d
     → run (suc k) i h ≡ stopped 8 i (heap r ws cs bs)
 unfolding run ended
 unit_off h r ws cs bs k i e d = rw (← e, d) refl
@@ -45,13 +42,13 @@ unit_off h r ws cs bs k i e d = rw (← e, d) refl
 module _ (h : Heap) (n : ℕ) (ws cs bs : List ℕ) where
   -- a stretch that ended with j units done, k to do, and no damage
   pub went_on : (s : Regs) (k j : ℕ) → 1 ≤ j → j ≤ n → k ≡ n - j → Ready (heap s ws cs bs) → ((i : ℕ) → run n i h ≡ run k (i + j) (heap s ws cs bs))
-      → Went n h (went s j Finished) ws cs bs
+      → Went n h (went s j (Ok tt)) ws cs bs
   unfolding left_by
   went_on s k j l b q d e =
       record { within = b; onward = λ z. l; ready = λ z. d; whole = λ i. e i ∙ ap (λ (x : ℕ). run x (i + j) (heap s ws cs bs)) q }
 
   -- a stretch that met damage after j units
-  pub went_off : (s : Regs) (j : ℕ) → j ≤ n → ((i : ℕ) → run n i h ≡ stopped 8 (i + j) (heap s ws cs bs)) → Went n h (went s j Damaged) ws cs bs
+  pub went_off : (s : Regs) (j : ℕ) {d : Damaged} → j ≤ n → ((i : ℕ) → run n i h ≡ stopped 8 (i + j) (heap s ws cs bs)) → Went n h (went s j (Err d)) ws cs bs
   unfolding left_by
   went_off s j b e = record { within = b; onward = λ z. never (cc); ready = λ z. never (cc); whole = e }
 
@@ -59,43 +56,43 @@ module _ (h : Heap) (n : ℕ) (ws cs bs : List ℕ) where
     less : n ≡ suc (n - 1)
     less = omega arith
 
-    pub single_on : (s : Regs) → Ready h → finish (heap s ws cs bs) ≡ unit h → Went n h (went s 1 Finished) ws cs bs
+    pub single_on : (s : Regs) → Ready h → finish (heap s ws cs bs) ≡ unit h → Went n h (went s 1 (Ok tt)) ws cs bs
     unfolding ended
     single_on s d e =
-        went_on s (n - 1) 1 (omega arith) l refl (done_kept h d s s ws cs bs (Done s) e refl)
-        (λ i. ap (λ (x : ℕ). run x i h) less ∙ unit_on h s s ws cs bs (n - 1) i {p = Done s} e refl)
+        went_on s (n - 1) 1 (omega arith) l refl (done_kept h d s s ws cs bs (Ok s) e refl)
+        (λ i. ap (λ (x : ℕ). run x i h) less ∙ unit_on h s s ws cs bs (n - 1) i {p = Ok s} e refl)
 
-    pub single_off : (r : Regs) → damage (heap r ws cs bs) ≡ unit h → Went n h (went r 0 Damaged) ws cs bs
+    pub single_off : (r : Regs) {d : Damaged} → damage (heap r ws cs bs) ≡ unit h → Went n h (went r 0 (Err d)) ws cs bs
     unfolding ended
-    single_off r e =
+    single_off r {d} e =
         went_off r 0 (omega arith)
-        (λ i. ap (λ (x : ℕ). run x i h) less ∙ unit_off h r ws cs bs (n - 1) i {p = progress.Damaged} e refl ∙ ap (λ (x : ℕ). stopped 8 x (heap r ws cs bs)) (omega arith))
+        (λ i. ap (λ (x : ℕ). run x i h) less ∙ unit_off h r ws cs bs (n - 1) i {p = Err d} e refl ∙ ap (λ (x : ℕ). stopped 8 x (heap r ws cs bs)) (omega arith))
 
 -- one more unit of a loop that has j units done and x to do: k is the run's heap
 module _ (k : Heap) (n : ℕ) (s : Regs) (ws cs bs : List ℕ) (x j : ℕ) (whole : (i : ℕ) → run n i k ≡ run x (i + j) (heap s ws cs bs))
-    (ws' cs' bs' : List ℕ) {p : Progress} (e : ended s p ws' cs' bs' ≡ unit (heap s ws cs bs)) where
-  pub loop_on : (t : Regs) → p ≡ Done t → (y l : ℕ) → x ≡ suc y → l ≡ j + 1 → (i : ℕ) → run n i k ≡ run y (i + l) (heap t ws' cs' bs')
+    (ws' cs' bs' : List ℕ) {p : Result Regs Damaged} (e : ended s p ws' cs' bs' ≡ unit (heap s ws cs bs)) where
+  pub loop_on : (t : Regs) → p ≡ Ok t → (y l : ℕ) → x ≡ suc y → l ≡ j + 1 → (i : ℕ) → run n i k ≡ run y (i + l) (heap t ws' cs' bs')
   loop_on t q y l a b i =
       whole i ∙ ap (λ (z : ℕ). run z (i + j) (heap s ws cs bs)) a ∙ unit_on (heap s ws cs bs) s t ws' cs' bs' y (i + j) e q ∙ ap (λ (z : ℕ). run y z (heap t ws' cs' bs')) (omega arith)
 
-  pub loop_off : p ≡ progress.Damaged → (y : ℕ) → x ≡ suc y → j ≤ n → Went n k (went s j Damaged) ws' cs' bs'
+  pub loop_off : {d : Damaged} → p ≡ Err d → (y : ℕ) → x ≡ suc y → j ≤ n → Went n k (went s j (Err d)) ws' cs' bs'
   loop_off q y a b =
       went_off k n ws' cs' bs' s j b
       (λ i. whole i ∙ ap (λ (z : ℕ). run z (i + j) (heap s ws cs bs)) a ∙ unit_off (heap s ws cs bs) s ws' cs' bs' y (i + j) e q)
 
 -- a unit that marks leaves the phase
-pub done_marking : (h : Heap) (s t : Regs) (ws cs bs : List ℕ) {p : Progress} → ended s p ws cs bs ≡ unit h → p ≡ Done t → h.regs.phase ≡ marking → h.regs.grey ≢ 1 → t.phase ≡ marking
+pub done_marking : (h : Heap) (s t : Regs) (ws cs bs : List ℕ) {p : Result Regs Damaged} → ended s p ws cs bs ≡ unit h → p ≡ Ok t → h.regs.phase ≡ marking → h.regs.grey ≢ 1 → t.phase ≡ marking
 unfolding ended
 done_marking h s t ws cs bs e q k n =
-    ap (λ (u : UnitEnd). u.heap.regs.phase) (ap (λ (x : Progress). ended s x ws cs bs) (sym q) ∙ e) ∙ marking_stays h k n
+    ap (λ (u : UnitEnd). u.heap.regs.phase) (ap (λ (x : Result Regs Damaged). ended s x ws cs bs) (sym q) ∙ e) ∙ marking_stays h k n
 
 -- what is left after a stretch of a run that has k units to do and i done
-module _ (k i : ℕ) (h : Heap) {e : End} where
-  pub left_on : e ≡ Finished → left_by e k i h ≡ run k i h
+module _ (k i : ℕ) (h : Heap) {e : Result (Unit {0}) Damaged} where
+  pub left_on : e ≡ Ok tt → left_by e k i h ≡ run k i h
   unfolding left_by
   left_on z = rw z refl
 
-  pub left_off : e ≡ Damaged → left_by e k i h ≡ stopped 8 i h
+  pub left_off : {d : Damaged} → e ≡ Err d → left_by e k i h ≡ stopped 8 i h
   unfolding left_by
   left_off z = rw z refl
 

@@ -5,22 +5,7 @@
 ghost use Rattle.std.specs.Prelude.{◌≡◌, ◌≤◌};
 ghost use Rattle.machine.specs.OneUnit.{step};
 
-use machine::{Regs, Step};
-
-// How units in a row ended: all of them were done, or one met damage.
-#[derive(Clone, Copy)]
-pub enum End {
-    Finished,
-    Damaged,
-}
-
-// What units in a row answer: the registers after them, how many were finished, and how they ended.
-#[derive(Clone, Copy)]
-pub struct Stretch {
-    pub regs: Regs,
-    pub units: u32,
-    pub end: End,
-}
+use machine::Step;
 
 // The step that a unit takes: by phase, grey head and the colour word met alone.
 pub fn step(m: u32, phase: u32, grey: u32, word: u32) -> Step
