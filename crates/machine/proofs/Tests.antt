@@ -6,6 +6,7 @@
 --     by_test, by_eq           a case split on a test, on whether two numbers are equal
 --     differ, agree            what a test for a difference says
 --     so                       an answer, by its contract, and what a test said of it
+--     handed_on                what a `?` hands on is the error that it met
 -- Assumes nothing.
 use Prim.Native.Nat.{ℕ}
 use mathlib.Core.Path.{◌≡◌, refl, sym, ◌∙◌}
@@ -13,7 +14,7 @@ use mathlib.Core.Bool.{Bool, true, false, ◌&&◌, ◌||◌, not, true≢false}
 use mathlib.Core.Logic.{◌⊎◌, inl, inr}
 use lib.Dec.{eqb}
 use borrow.Author.Tests.{eqb-true, eqb-false}
-use Rattle.std.specs.Prelude.{if◌then◌else◌}
+use Rattle.std.specs.Prelude.{Result, Ok, Err, IsErr, IsErrAnd, if◌then◌else◌}
 
 pub clash : {A : Type 0} {t : Bool} → t ≡ true → t ≡ false → A
 clash {t} p q = absurd (true≢false (cc))
@@ -58,3 +59,8 @@ agree a b e = by_test (eqb a b) (λ t. eqb-true a b t) (λ t. absurd (true≢fal
 -- what a function answered, by its contract, and what a test then said of the answer
 pub so : {A : Type 0} {r s t : A} → r ≡ s → r ≡ t → s ≡ t
 so p q = sym p ∙ q
+
+-- at the exit of a `?`: the error met is the one that is answered
+pub handed_on : {A E : Type 0} {e : E} {r : Result A E} → IsErr r × IsErrAnd r (λ y. y ≡ e) → r ≡ Err e
+handed_on {r = Ok x} h = absurd h.1
+handed_on {r = Err y} h = rw h.1 refl

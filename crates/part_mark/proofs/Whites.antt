@@ -30,21 +30,21 @@ use Rattle.machine.proofs.Steps.{never}
 use Rattle.machine.proofs.LowestBit.{along, along_all, lowest_shift, trailing_within, trailing_byte}
 use Rattle.machine.proofs.Marking.{sound_on, sound_off, sound_end}
 use Rattle.machine.proofs.Seeing.{sound_seen, white_block, Darker, darker_black, darker_grey, not_greyed}
-use Rattle.part_mark.specs.declared.Looked.{Looked}
-use Rattle.part_mark.specs.declared.Looked.TheVariants as Looked
+use Rattle.std.specs.Prelude.{Result, Ok, Err}
+use Rattle.machine.specs.declared.Damaged as damaged
 use Rattle.part_mark.specs.Whites.{if_white, whites_from, whites, looked}
 
-abbrev byte_in : Looked → ℕ
-byte_in (Looked.Whites v) = v
-byte_in Looked.Damaged = 0
+abbrev byte_in : Result ℕ damaged.Damaged → ℕ
+byte_in (Ok v) = v
+byte_in (Err d) = 0
 
 -- what an answer says: all are sound, and the byte; or not
-pub looked_whites : (s : Bool) (w : ℕ) {v : ℕ} {x : Looked} → x ≡ looked s w → x ≡ Looked.Whites v → (s ≡ true) × (v ≡ w)
+pub looked_whites : (s : Bool) (w : ℕ) {v : ℕ} {x : Result ℕ damaged.Damaged} → x ≡ looked s w → x ≡ Ok v → (s ≡ true) × (v ≡ w)
 unfolding looked
 looked_whites true w e q = (refl, ap byte_in (sym q ∙ e))
 looked_whites false w e q = never (cc)
 
-pub looked_damaged : (s : Bool) (w : ℕ) {x : Looked} → x ≡ looked s w → x ≡ Looked.Damaged → s ≡ false
+pub looked_damaged : (s : Bool) (w : ℕ) {x : Result ℕ damaged.Damaged} {d : damaged.Damaged} → x ≡ looked s w → x ≡ Err d → s ≡ false
 unfolding looked
 looked_damaged true w e q = never (cc)
 looked_damaged false w e q = refl
@@ -113,13 +113,13 @@ module _ (now : Colouring) (part : List ℕ) where
           rw (o, b, c, a) (omega arith)
 
   -- what is to come of the first pass, with white gathered and the rest of the byte
-  abbrev pub to_come : ℕ → ℕ → Looked
+  abbrev pub to_come : ℕ → ℕ → Result ℕ damaged.Damaged
   to_come white rest = looked (all_sound now (references part rest)) (white + whites now part rest)
 
   pub come_first : (byte : ℕ) → looked (all_sound now (references part byte)) (whites now part byte) ≡ to_come 0 byte
   come_first byte = let z : 0 + whites now part byte ≡ whites now part byte = omega arith in rw z refl
 
-  pub come_end : (white rest : ℕ) → rest ≡ 0 → Looked.Whites white ≡ to_come white rest
+  pub come_end : (white rest : ℕ) → rest ≡ 0 → Ok white ≡ to_come white rest
   unfolding looked
   come_end white rest z =
       let a : white + whites now part rest ≡ white = rw z (rw (from_none 8 0) (omega arith)) in
@@ -147,7 +147,7 @@ module _ (now : Colouring) (part : List ℕ) where
         let a : white + whites now part rest ≡ white + 1 * 2 ^ t % 4294967296 + whites now part left = omega arith in
         rw (sound_on part rest t f n e now (sound_seen now (get_or part t 0) ∙ rw (← s, q) refl), a) refl
 
-    pub come_damaged : x ≡ Damaged → Looked.Damaged ≡ to_come white rest
+    pub come_damaged : {d : damaged.Damaged} → x ≡ Damaged → Err d ≡ to_come white rest
     unfolding looked
     come_damaged q = rw (sound_off part rest t f n e now (sound_seen now (get_or part t 0) ∙ rw (← s, q) refl)) refl
 
@@ -207,7 +207,7 @@ module _ (now : Colouring) (part : List ℕ) where
   whites_grey byte k d = rw (along_all part (whites now part byte), along_all part byte) (sym (from_grey 8 0 byte k d))
 
   -- what the second pass asks of the byte that the first answered
-  pub whites_ask : (n v byte : ℕ) {x : Looked} → x ≡ looked (all_sound now (references part byte)) (whites now part byte) → x ≡ Looked.Whites v → n ≡ m
+  pub whites_ask : (n v byte : ℕ) {x : Result ℕ damaged.Damaged} → x ≡ looked (all_sound now (references part byte)) (whites now part byte) → x ≡ Ok v → n ≡ m
       → (v < 256) × Named n (references part v)
   whites_ask n v byte a b e =
       let (s, q) = looked_whites (all_sound now (references part byte)) (whites now part byte) a b in

@@ -4,13 +4,12 @@
 --     whites k part byte                the byte of the references that name white blocks
 --     looked s white                    what is answered: that byte where all are sound
 -- Assumes nothing.
-use Rattle.std.specs.Prelude.{ℕ, zero, suc, ◌+◌, ◌*◌, ◌/◌, ◌%◌, Bool, true, false, List, eqb, get_or, if◌then◌else◌}
+use Rattle.std.specs.Prelude.{ℕ, zero, suc, ◌+◌, ◌*◌, ◌/◌, ◌%◌, Bool, true, false, List, Result, Ok, Err, eqb, get_or, if◌then◌else◌}
 use Rattle.machine.specs.declared.Seen.{Seen}
 use Rattle.machine.specs.declared.Seen.TheVariants.{Settled, ToGrey, Damaged}
 use Rattle.machine.specs.Colouring.{Colouring}
 use Rattle.machine.specs.Seen.{seen}
-use Rattle.part_mark.specs.declared.Looked.{Looked}
-use Rattle.part_mark.specs.declared.Looked.TheVariants as Looked
+use Rattle.machine.specs.declared.Damaged as damaged
 
 -- the value v of a word's bit, where the word was seen to name a white block
 abbrev pub if_white : Seen → ℕ → ℕ
@@ -26,6 +25,6 @@ whites_from (suc n) w k part rest =
 abbrev pub whites : Colouring → List ℕ → ℕ → ℕ
 whites k part byte = whites_from 8 0 k part byte
 
-unfoldable pub looked : Bool → ℕ → Looked
-looked true white = Looked.Whites white
-looked false white = Looked.Damaged
+unfoldable pub looked : Bool → ℕ → Result ℕ damaged.Damaged
+looked true white = Ok white
+looked false white = Err (record {})

@@ -14,19 +14,11 @@ ghost use Rattle.machine.specs.OneUnit.{all_sound, act, unit, ended};
 ghost use Rattle.part_step.specs.Going.{Went};
 ghost use Rattle.part_mark.specs.Whites.{whites, looked};
 
-use machine::{Progress, Regs, Seen, Step};
-use part_step::{End, Stretch};
+use machine::{Damaged, Ran, Regs, Seen, Step};
 
-// What the first pass over a block's references answers: the byte of the words that name white blocks, or that a reference is neither 0
-// nor an allocated block.
-#[derive(Clone, Copy)]
-pub enum Looked {
-    Whites(u32),
-    Damaged,
-}
-
-// What the references among eight words are, from set bit to set bit of the byte.
-pub fn seen_all(m: u32, colours: &[u32], part: &[u32], byte: u8) -> Looked
+// The first pass over the references among a block's eight words, from set bit to set bit of the byte. It answers the byte of the words
+// that name white blocks, or that a reference is neither 0 nor an allocated block.
+pub fn seen_all(m: u32, colours: &[u32], part: &[u32], byte: u8) -> Result<u32, Damaged>
     requires { (m ≤ 16384) × CellsFit m colours.now × (length part.now ≡ 8) }
     ensures { (g : ℕ) → result ≡ looked (all_sound (coloured m g colours.now) (references part.now byte)) (whites (coloured m g colours.now) part.now byte) }
 {
@@ -41,12 +33,12 @@ pub fn seen_all(m: u32, colours: &[u32], part: &[u32], byte: u8) -> Looked
                 white += bit;
             }
             Seen::Damaged => {
-                return Looked::Damaged;
+                return Err(Damaged);
             }
         }
         rest -= bit;
     }
-    Looked::Whites(white)
+    Ok(white)
 }
 
 // Each white block named by a word whose bit is set becomes grey, in order. Answers the grey head afterwards.
@@ -65,23 +57,21 @@ pub fn grey_all(head: u32, colours: &mut [u32], part: &[u32], bits: u32) -> u32
 }
 
 // The first grey block becomes black, and the white blocks that it names grey.
-pub fn mark(r: Regs, words: &[u32], colours: &mut [u32], bytes: &[u8]) -> Progress
+pub fn mark(r: Regs, words: &[u32], colours: &mut [u32], bytes: &[u8]) -> Result<Regs, Damaged>
     requires { Ready (heap r words.now colours.old bytes.now) × Block r.blocks r.grey }
     ensures { ended r result words.now colours.new bytes.now ≡ act Mark (heap r words.now colours.old bytes.now) }
 {
     let i = r.grey as usize - 2;
     let at = 8 * i;
     let byte = bytes[i];
-    let Looked::Whites(white) = seen_all(r.blocks, &colours[..], &words[at..at + 8], byte) else {
-        return Progress::Damaged;
-    };
+    let white = seen_all(r.blocks, &colours[..], &words[at..at + 8], byte)?;
     let next = part_colours::to_black(r.grey, colours);
     let head = grey_all(next, colours, &words[at..at + 8], white);
-    Progress::Done(machine::with_grey(r, head))
+    Ok(machine::with_grey(r, head))
 }
 
 // A unit while marking, with a grey block.
-pub fn mark_unit(r: Regs, words: &[u32], colours: &mut [u32], bytes: &[u8]) -> Progress
+pub fn mark_unit(r: Regs, words: &[u32], colours: &mut [u32], bytes: &[u8]) -> Result<Regs, Damaged>
     requires { Ready (heap r words.now colours.old bytes.now) × (r.phase ≡ marking) × (r.grey ≢ 1) }
     ensures { ended r result words.now colours.new bytes.now ≡ unit (heap r words.now colours.old bytes.now) }
 {
@@ -89,30 +79,30 @@ pub fn mark_unit(r: Regs, words: &[u32], colours: &mut [u32], bytes: &[u8]) -> P
     if let Step::Mark = part_step::step(r.blocks, r.phase, r.grey, word) {
         return mark(r, words, colours, bytes);
     }
-    Progress::Damaged
+    Err(Damaged)
 }
 
 // At most n units, as long as there is a grey block.
-pub fn marks(r: Regs, words: &[u32], colours: &mut [u32], bytes: &[u8], n: u32) -> Stretch
+pub fn marks(r: Regs, words: &[u32], colours: &mut [u32], bytes: &[u8], n: u32) -> Ran
     requires { Ready (heap r words.now colours.old bytes.now) × (r.phase ≡ marking) × (r.grey ≢ 1) × (1 ≤ n) }
     ensures { Went n (heap r words.now colours.old bytes.now) result words.now colours.new bytes.now }
 {
     let mut s = r;
     let mut left = n;
     while left != 0 && s.grey != machine::NO_GREY {
-        let Progress::Done(next) = mark_unit(s, words, colours, bytes) else {
-            return Stretch {
+        let Ok(next) = mark_unit(s, words, colours, bytes) else {
+            return Ran {
                 regs: s,
                 units: n - left,
-                end: End::Damaged,
+                end: Err(Damaged),
             };
         };
         s = next;
         left -= 1;
     }
-    Stretch {
+    Ran {
         regs: s,
         units: n - left,
-        end: End::Finished,
+        end: Ok(()),
     }
 }

@@ -25,10 +25,10 @@ pub loop-left-preserved : goal.loop-left-preserved
 loop-left-preserved c = (
   omega arith,
   c.mark_unit.auto.colours ∙ c.loop-left.invariant.1,
-  done_kept _ c.loop-left.invariant.2 _ _ _ _ _ _ c.mark_unit.ensures c.in-Done.is,
-  done_marking _ _ _ _ _ _ c.mark_unit.ensures c.in-Done.is c.loop-left.invariant.3 c.if-s-ne-NO_GREY.true,
+  done_kept _ c.loop-left.invariant.2 _ _ _ _ _ _ c.mark_unit.ensures c.in-Ok.is,
+  done_marking _ _ _ _ _ _ c.mark_unit.ensures c.in-Ok.is c.loop-left.invariant.3 c.if-s-ne-NO_GREY.true,
   λ e. absurd (omega arith),
-  loop_on _ _ c.loop-left.s _ c.loop-left.colours _ _ _ c.loop-left.invariant.5 _ _ _ c.mark_unit.ensures _ c.in-Done.is _ _ (omega arith) (omega arith),
+  loop_on _ _ c.loop-left.s _ c.loop-left.colours _ _ _ c.loop-left.invariant.5 _ _ _ c.mark_unit.ensures _ c.in-Ok.is _ _ (omega arith) (omega arith),
 )
 
 pub shape_of-colours : goal.shape_of-colours
