@@ -12,9 +12,8 @@ use native.Mathlib.Omega.{arith}
 use lib.Dec.{ltb}
 use borrow.Author.Tests.{eq-eqb, ne_eqb, ltb-true, ltb-false, lt-ltb, le-ltb}
 use Rattle.machine.specs.declared.Regs.{Regs}
-use Rattle.machine.specs.declared.Progress.{Progress}
-use Rattle.machine.specs.declared.Progress.TheVariants.{Done}
-use Rattle.std.specs.Prelude.{if◌then◌else◌}
+use Rattle.machine.specs.declared.Damaged.{Damaged}
+use Rattle.std.specs.Prelude.{Result, Ok, if◌then◌else◌}
 use Rattle.machine.specs.Registers.{idle, with_phase, with_position, sweep_end}
 use Rattle.machine.specs.OneUnit.{advance}
 use Rattle.machine.proofs.Tests.{by_eq, if_ind}
@@ -37,10 +36,10 @@ module _ (r : Regs) where
   settled_not n = simp (ne_eqb r.position (sweep_end r + 1) n)
 
 pub stepped : (r q : Regs) {s : Regs} → s ≡ with_position (q.position + 1) q → q.position ≡ r.position → q.mark ≡ r.mark → q.phase ≡ r.phase
-    → Onward r (Done s)
+    → Onward r (Ok s)
 stepped r q e a b d = rw e (ap (λ (x : ℕ). x + 1) a, b, d)
 
-pub goes_on : (r s : Regs) {p : Progress} → Onward r p → p ≡ Done s → (s.position ≡ r.position + 1) × (s.mark ≡ r.mark) × (s.phase ≡ r.phase)
+pub goes_on : (r s : Regs) {p : Result Regs Damaged} → Onward r p → p ≡ Ok s → (s.position ≡ r.position + 1) × (s.mark ≡ r.mark) × (s.phase ≡ r.phase)
 goes_on r s o q = subst (Onward r) q o
 
 -- a the position, e the sweep's end, k units

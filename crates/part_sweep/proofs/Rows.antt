@@ -14,8 +14,8 @@ use mathlib.Core.Logic.{◌≢◌}
 use mathlib.Core.List.{List}
 use native.Mathlib.Omega.{arith}
 use Rattle.machine.specs.declared.Regs.{Regs}
-use Rattle.machine.specs.declared.Progress.{Progress}
-use Rattle.machine.specs.declared.Progress.TheVariants.{Done, Damaged}
+use Rattle.std.specs.Prelude.{Result, Ok, Err}
+use Rattle.machine.specs.declared.Damaged.{Damaged}
 use Rattle.machine.specs.Registers.{sweeping, sweep_end}
 use Rattle.machine.specs.Heap.{Heap, heap}
 use Rattle.machine.specs.Ready.{Ready}
@@ -23,7 +23,6 @@ use Rattle.machine.specs.OneUnit.{unit, ended}
 use Rattle.machine.specs.Units.{run}
 use Rattle.machine.proofs.Kept.{done_kept}
 use Rattle.part_step.specs.Going.{Went}
-use Rattle.part_step.specs.declared.End.TheVariants as end
 use Rattle.part_step.proofs.Going.{went, went_on, loop_on, loop_off}
 use Rattle.part_sweep.specs.Ending.{settled, settling, Onward}
 use Rattle.part_sweep.proofs.Ending.{Within, settled_not, goes_on}
@@ -78,7 +77,7 @@ module _ (n last : ℕ) (h : Heap) (r s : Regs) (ws cs bs : List ℕ) (d : Swept
       omega arith
 
   -- behind the last unit
-  pub swept_end : s.position ≡ last → {x : Regs} → x ≡ settled s → Went n h (went x (s.position - r.position) end.Finished) ws cs bs
+  pub swept_end : s.position ≡ last → {x : Regs} → x ≡ settled s → Went n h (went x (s.position - r.position) (Ok tt)) ws cs bs
   swept_end e q =
       let w = d.stops in
       let a = w.ahead in
@@ -111,13 +110,13 @@ module _ (n last : ℕ) (h : Heap) (r s : Regs) (ws cs bs : List ℕ) (d : Swept
         let g = d.from in
         o (omega arith)
 
-    module _ (ws' cs' bs' : List ℕ) {p : Progress} (u : ended s (settling p) ws' cs' bs' ≡ unit (heap s ws cs bs)) where
-      pub swept_off : p ≡ Damaged → Went n h (went s (s.position - r.position) end.Damaged) ws' cs' bs'
+    module _ (ws' cs' bs' : List ℕ) {p : Result Regs Damaged} (u : ended s (settling p) ws' cs' bs' ≡ unit (heap s ws cs bs)) where
+      pub swept_off : {e : Damaged} → p ≡ Err e → Went n h (went s (s.position - r.position) (Err e)) ws' cs' bs'
       swept_off q =
           let m = more in
           loop_off h n s ws cs bs _ _ here_whole ws' cs' bs' u (ap settling q) (n - (s.position - r.position) - 1) (omega arith) units_within
 
-      pub swept_on : Onward s p → (t : Regs) → p ≡ Done t → Swept n last h r t ws' cs' bs'
+      pub swept_on : Onward s p → (t : Regs) → p ≡ Ok t → Swept n last h r t ws' cs' bs'
       swept_on g t q =
           let k = goes_on s t g q in
           let a = k.0 in
@@ -135,7 +134,7 @@ module _ (n last : ℕ) (h : Heap) (r s : Regs) (ws cs bs : List ℕ) (d : Swept
                 (one_less n s.position r.position t.position f a m) (one_more s.position r.position t.position f a);
           }
 
-    pub stop_nearer : {p : Progress} → Onward s p → (t : Regs) → p ≡ Done t → last - t.position < last - s.position
+    pub stop_nearer : {p : Result Regs Damaged} → Onward s p → (t : Regs) → p ≡ Ok t → last - t.position < last - s.position
     stop_nearer g t q =
         let a = (goes_on s t g q).0 in
         let x = d.to in

@@ -13,8 +13,7 @@ ghost use Rattle.machine.specs.OneUnit.{whitened, act, unit, ended};
 ghost use Rattle.part_step.specs.Going.{Went};
 ghost use Rattle.part_sweep.specs.Ending.{settled, settling, Onward};
 
-use machine::{Colour, Progress, Regs, Step};
-use part_step::{End, Stretch};
+use machine::{Colour, Damaged, Ran, Regs, Step};
 
 // The last block that a sweep reaches: the mark.
 pub fn sweep_end(r: Regs) -> u32
@@ -59,12 +58,12 @@ pub fn stop(r: Regs, k: u32) -> u32
 }
 
 // Sweeping: the white block at the position is freed.
-pub fn reclaim(r: Regs, words: &mut [u32], colours: &mut [u32], bytes: &mut [u8]) -> Progress
+pub fn reclaim(r: Regs, words: &mut [u32], colours: &mut [u32], bytes: &mut [u8]) -> Result<Regs, Damaged>
     requires { Ready (heap r words.old colours.old bytes.old) × Block r.blocks r.position }
     ensures { (ended r (settling result) words.new colours.new bytes.new ≡ act Reclaim (heap r words.old colours.old bytes.old)) × Onward r result }
 {
     if r.count == r.blocks {
-        return Progress::Damaged;
+        return Err(Damaged);
     }
     let at = 8 * (r.position as usize - 2);
     part_cells::clear(&mut words[at..at + 8], r.free);
@@ -73,7 +72,7 @@ pub fn reclaim(r: Regs, words: &mut [u32], colours: &mut [u32], bytes: &mut [u8]
     let mut s = r;
     s.free = r.position;
     s.count = r.count + 1;
-    Progress::Done(onward(s))
+    Ok(onward(s))
 }
 
 // Sweeping: the black block at the position becomes white.
@@ -86,39 +85,39 @@ pub fn whiten(r: Regs, colours: &mut [u32]) -> Regs
 }
 
 // A unit while sweeping, but that the sweep's end is left to the last of them.
-pub fn sweep_unit(r: Regs, words: &mut [u32], colours: &mut [u32], bytes: &mut [u8]) -> Progress
+pub fn sweep_unit(r: Regs, words: &mut [u32], colours: &mut [u32], bytes: &mut [u8]) -> Result<Regs, Damaged>
     requires { Ready (heap r words.old colours.old bytes.old) × (r.phase ≡ sweeping) }
     ensures { (ended r (settling result) words.new colours.new bytes.new ≡ unit (heap r words.old colours.old bytes.old)) × Onward r result }
 {
     let word = part_colours::word_of(&colours[..], r.position);
     match part_step::step(r.blocks, r.phase, r.grey, word) {
         Step::Reclaim => reclaim(r, words, colours, bytes),
-        Step::Whiten => Progress::Done(whiten(r, colours)),
-        Step::Pass => Progress::Done(onward(r)),
-        _ => Progress::Damaged,
+        Step::Whiten => Ok(whiten(r, colours)),
+        Step::Pass => Ok(onward(r)),
+        _ => Err(Damaged),
     }
 }
 
 // At most n units, as long as the sweep lasts.
-pub fn sweeps(r: Regs, words: &mut [u32], colours: &mut [u32], bytes: &mut [u8], n: u32) -> Stretch
+pub fn sweeps(r: Regs, words: &mut [u32], colours: &mut [u32], bytes: &mut [u8], n: u32) -> Ran
     requires { Ready (heap r words.old colours.old bytes.old) × (r.phase ≡ sweeping) × (1 ≤ n) }
     ensures { Went n (heap r words.old colours.old bytes.old) result words.new colours.new bytes.new }
 {
     let last = stop(r, n);
     let mut s = r;
     while s.position != last {
-        let Progress::Done(next) = sweep_unit(s, words, colours, bytes) else {
-            return Stretch {
+        let Ok(next) = sweep_unit(s, words, colours, bytes) else {
+            return Ran {
                 regs: s,
                 units: s.position - r.position,
-                end: End::Damaged,
+                end: Err(Damaged),
             };
         };
         s = next;
     }
-    Stretch {
+    Ran {
         regs: settled(s),
         units: s.position - r.position,
-        end: End::Finished,
+        end: Ok(()),
     }
 }

@@ -7,7 +7,7 @@ use Rattle.part_sweep.proofs.Ending.{advance_settles, stepped}
 use Rattle.part_sweep.proofs.reclaim.Goals as goal
 
 pub returns-then-r : goal.returns-then-r
-returns-then-r c = (reclaim_full _ _ _ _ c.if-r.true, tt)
+returns-then-r c = (reclaim_full _ _ _ _ _ c.if-r.true, tt)
 
 pub returns : goal.returns
 returns c =

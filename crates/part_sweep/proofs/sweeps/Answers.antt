@@ -36,7 +36,7 @@ returns-in_default c =
     swept_off _ _ _ _ c.loop-s.s c.loop-s.words c.loop-s.colours c.loop-s.bytes c.loop-s.invariant.3 c.loop-s-test.true _ _ _ c.sweep_unit.ensures.0 c.in_default.is
 
 pub loop-s-smaller : goal.loop-s-smaller
-loop-s-smaller c = stop_nearer _ _ _ _ _ _ _ _ c.loop-s.invariant.3 c.loop-s-test.true c.sweep_unit.ensures.1 _ c.in-Done.is
+loop-s-smaller c = stop_nearer _ _ _ _ _ _ _ _ c.loop-s.invariant.3 c.loop-s-test.true c.sweep_unit.ensures.1 _ c.in-Ok.is
 
 pub loop-s-preserved : goal.loop-s-preserved
 loop-s-preserved c = (
@@ -44,7 +44,7 @@ loop-s-preserved c = (
   c.sweep_unit.auto.colours ∙ c.loop-s.invariant.1,
   c.sweep_unit.auto.bytes ∙ c.loop-s.invariant.2,
   swept_on _ _ _ _ c.loop-s.s c.loop-s.words c.loop-s.colours c.loop-s.bytes c.loop-s.invariant.3 c.loop-s-test.true
-      _ _ _ c.sweep_unit.ensures.0 c.sweep_unit.ensures.1 _ c.in-Done.is,
+      _ _ _ c.sweep_unit.ensures.0 c.sweep_unit.ensures.1 _ c.in-Ok.is,
 )
 
 pub settled-requires : goal.settled-requires
