@@ -1,5 +1,5 @@
 -- Laws of Allocate, one for each way through the code.
---     due_pace, due_none, due_share     the units due
+--     due_pace, due_share      the units due
 --     first_not_free, first_link        the test of the first free block
 --     list_none, list_uncounted, list_counted, list_bad, list_good     the tests of the free list
 --     new_black, new_white              the new block's colour
@@ -10,7 +10,7 @@
 --     damaged_ends, undamaged           units that met damage, and units that met none
 --     allocate_refused, allocate_off, allocate_goes     the call
 -- Assumes nothing.
-use Prim.Native.Nat.{ℕ, ◌-◌, ◌*◌, max, ◌≤◌, ◌<◌}
+use Prim.Native.Nat.{ℕ, ◌+◌, ◌-◌, ◌*◌, ◌/◌, ◌%◌, min, max, ◌≤◌, ◌<◌}
 use mathlib.Core.Path.{◌≡◌, refl, sym, ◌∙◌, ap}
 use mathlib.Core.Logic.{◌≢◌}
 use mathlib.Core.Bool.{Bool, true, false}
@@ -23,7 +23,6 @@ use Rattle.machine.specs.declared.Regs.{Regs}
 use Rattle.machine.specs.declared.Colour.{Colour}
 use Rattle.machine.specs.declared.Colour.TheVariants.{White, Black}
 use Rattle.machine.specs.Tests.{◌▷◌}
-use Rattle.machine.specs.Rounding.{rounded_up}
 use Rattle.machine.specs.Registers.{with_free, with_count, with_root, with_mark}
 use Rattle.machine.specs.Block.{base}
 use Rattle.machine.specs.Colouring.{is_free, painted}
@@ -36,6 +35,7 @@ use Rattle.machine.specs.WellFormed.{Block}
 use Rattle.machine.specs.Store.{put_reference}
 use Rattle.machine.specs.Allocate.{units_due, first_fits, list_refusal, taken, held, take_refusal, allocated, allocate}
 use Rattle.machine.proofs.Tests.{by_eq}
+use Rattle.machine.proofs.Rounding.{ceil_rounds}
 use Rattle.machine.proofs.Blocks.{block_as}
 use Rattle.machine.proofs.Entering.{first_zero}
 use Rattle.machine.proofs.Refusals.{stops, passes, word_zero}
@@ -46,15 +46,12 @@ module _ (r : Regs) where
   unfolding units_due
   due_pace n = simp (ne_eqb r.pace 0 n)
 
-  pub due_none : r.pace ≡ 0 → r.count ≡ 0 → 2 * r.blocks ≡ units_due r
+  -- d, the free count, 0 counted as 1
+  pub due_share : r.pace ≡ 0 → (d : ℕ) → d ≡ max r.count 1 → 2 * (r.blocks / d + min 1 (r.blocks % d)) ≡ units_due r
   unfolding units_due
-  due_none p z = simp (eq-eqb r.pace 0 p) (rw z (omega arith))
-
-  pub due_share : r.pace ≡ 0 → r.count ≢ 0 → 2 * rounded_up r.blocks r.count ≡ units_due r
-  unfolding units_due
-  due_share p n =
-      let e : max 1 r.count ≡ r.count = omega arith in
-      simp (eq-eqb r.pace 0 p) (rw e refl)
+  due_share p d e =
+      let a : max 1 r.count ≡ d = omega arith in
+      simp (eq-eqb r.pace 0 p) (rw (a, ceil_rounds r.blocks d (omega arith)) refl)
 
   pub new_black : (b : ℕ) → may_be_black r b ≡ true → Black ≡ new_colour r b
   unfolding new_colour

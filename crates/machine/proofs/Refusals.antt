@@ -1,5 +1,7 @@
 -- Laws of the refusals: one for each way through the tests, and what a refusal number 0 establishes.
 --     stops, passes            the two ways through a ▷ b
+--     refuses, refused_so, unrefused     a refusal's number isn't 0; what a test that refused, and one that didn't, says of its number
+--     stops_by, passes_by      the two ways through a ▷ b, by what the test a answered
 --     fits_most                where test 1 passes, M is at most 16,384
 --     unfit, illegal, entered  the three ways of entry
 --     word_fits, word_high, word_no_block     the three ways of word_refusal
@@ -14,18 +16,22 @@
 --     holder_undamaged, target_undamaged     holder_refusal and target_refusal give 8 outside the layout only
 -- Assumes nothing.
 use Prim.Native.Nat.{ℕ, ◌≤◌, ◌<◌}
-use mathlib.Core.Path.{◌≡◌, refl, sym, ◌∙◌}
+use mathlib.Core.Path.{◌≡◌, refl, sym, ◌∙◌, ap}
 use mathlib.Core.Logic.{◌≢◌}
 use mathlib.Core.Bool.{true, false, ◌&&◌}
 use native.Mathlib.Omega.{arith}
 use lib.Dec.{leb}
 use borrow.Author.Tests.{leb-true, le-leb, lt-leb, eq-eqb, ne_eqb}
+use Rattle.std.specs.Prelude.{Result, Ok, Err}
 use Rattle.machine.specs.declared.Regs.{Regs}
+use Rattle.machine.specs.declared.Refusal.{Refusal}
+use Rattle.machine.specs.declared.Refusal.TheVariants as refusal
 use Rattle.machine.specs.declared.Colour.{Colour}
 use Rattle.machine.specs.declared.Colour.TheVariants as colours
 use Rattle.machine.specs.declared.State.{State}
 use Rattle.machine.specs.declared.State.TheVariants.{LiveWhite, Doomed, Grey, Black, Free, Outside}
 use Rattle.machine.specs.Tests.{◌▷◌}
+use Rattle.machine.specs.Refusal.{number, refused_by}
 use Rattle.machine.specs.Block.{is_block}
 use Rattle.machine.specs.Colouring.{Colouring, colour_in}
 use Rattle.machine.specs.Heap.{Heap}
@@ -47,6 +53,32 @@ stops {n} {a} b e z = rw e (simp (ne_eqb a 0 (λ y. z (e ∙ y))))
 pub passes : {n a b x : ℕ} → x ≡ a → x ≡ 0 → n ≡ b → n ≡ a ▷ b
 unfolding ◌▷◌
 passes {a} {b} e z g = simp (eq-eqb a 0 (sym e ∙ z)) g
+
+pub refuses : (e : Refusal) → number e ≢ 0
+refuses refusal.Unfit z = absurd (omega arith)
+refuses refusal.Illegal z = absurd (omega arith)
+refuses refusal.NoPlace z = absurd (omega arith)
+refuses refusal.NoTarget z = absurd (omega arith)
+refuses refusal.Gone z = absurd (omega arith)
+refuses refusal.TargetGone z = absurd (omega arith)
+refuses refusal.NoRoom z = absurd (omega arith)
+refuses refusal.Damage z = absurd (omega arith)
+refuses refusal.TooManyUnits z = absurd (omega arith)
+refuses refusal.BadHeap z = absurd (omega arith)
+refuses refusal.BadLength z = absurd (omega arith)
+
+module _ {A : Type 0} {t : Result A Refusal} {a : ℕ} (p : refused_by t ≡ a) where
+  pub refused_so : {e : Refusal} → t ≡ Err e → number e ≡ a
+  refused_so q = sym (ap refused_by q) ∙ p
+
+  pub unrefused : {x : A} → t ≡ Ok x → a ≡ 0
+  unrefused q = sym p ∙ ap refused_by q
+
+  pub stops_by : {e : Refusal} (b : ℕ) → t ≡ Err e → number e ≡ a ▷ b
+  stops_by {e} b q = stops b (refused_so q) (refuses e)
+
+  pub passes_by : {x : A} {n b : ℕ} → t ≡ Ok x → n ≡ b → n ≡ a ▷ b
+  passes_by q g = passes p (ap refused_by q) g
 
 pub fits_most : (m u lw lc lb : ℕ) → fits m u lw lc lb ≡ true → m ≤ 16384
 unfolding fits numbers_fit

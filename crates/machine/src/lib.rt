@@ -122,23 +122,12 @@ pub struct Regs {
 pub fn with_grey(r: Regs, g: u32) -> Regs
     ensures { result ≡ with_grey g r }
 {
-    Regs {
-        blocks: r.blocks,
-        pace: r.pace,
-        phase: r.phase,
-        grey: g,
-        free: r.free,
-        count: r.count,
-        position: r.position,
-        root: r.root,
-        cycle: r.cycle,
-        mark: r.mark,
-    }
+    Regs { grey: g, ..r }
 }
 
 // What a call answers: a refusal number or 0, a value (0 if none), and the units done.
 #[repr(C)]
-#[derive(Clone, Copy)]
+#[derive(Clone, Copy, Default, PartialEq, Eq)]
 pub struct Answer {
     pub refusal: u32,
     pub value: u32,
@@ -147,7 +136,7 @@ pub struct Answer {
 
 // What Read answers: its `reference` is 1 for a word that is a reference, else 0.
 #[repr(C)]
-#[derive(Clone, Copy)]
+#[derive(Clone, Copy, Default, PartialEq, Eq)]
 pub struct ReadAnswer {
     pub refusal: u32,
     pub value: u32,

@@ -1,6 +1,5 @@
 // The tests before a call does anything: refusals 1 to 4 by numbers alone, then 8, 5 and 6 by a block's state.
-// Each answers the refusal number, or 0. Then how a call gives back its answer: answered, and for a call that did
-// no units refused and done.
+// Then how a call gives back its answer: answered, and for a call that did no units refused and done.
 #![tactic(auto)]
 
 ghost use Rattle.std.specs.Prelude.{◌≡◌, ◌≢◌, true, ◌&&◌, ◌||◌, List, ℕ, ◌≤◌, leb, eqb, length};
@@ -10,10 +9,12 @@ ghost use Rattle.machine.specs.Heap.{heap};
 ghost use Rattle.machine.specs.Colouring.{CellsFit, head_legal};
 ghost use Rattle.machine.specs.State.{refusal_of, holder_refusal, target_refusal};
 ghost use Rattle.machine.specs.Entry.{numbers_fit, lengths_fit, fits, is_block_or_none, mark_legal, position_legal, legal, entry, word_refusal, holder_place, target_place};
-ghost use Rattle.machine.specs.Read.{read_refusal};
+ghost use Rattle.machine.specs.Refusal.{number, refused_by};
+ghost use Rattle.machine.specs.Read.{read_refusal, read_refused};
 ghost use Rattle.machine.specs.Answers.{given, answering, refuse, done};
+ghost use Rattle.part_checks.specs.Absent.{refused_as};
 
-use machine::{Answer, Outcome, Regs, State};
+use machine::{Answer, Outcome, ReadAnswer, Refusal, Regs, State};
 
 // Whether M and the pace fit.
 pub fn numbers_fit(m: u32, u: u32) -> bool
@@ -101,115 +102,133 @@ pub fn legal(r: Regs) -> bool
 }
 
 // Refusals 1 and 2.
-pub fn entry(r: Regs, words: &[u32], colours: &[u32], bytes: &[u8]) -> u32
-    ensures { result ≡ entry (heap r words.now colours.now bytes.now) }
+pub fn entry(r: Regs, words: &[u32], colours: &[u32], bytes: &[u8]) -> Result<(), Refusal>
+    ensures { refused_by result ≡ entry (heap r words.now colours.now bytes.now) }
 {
-    if fits(r.blocks, r.pace, words.len(), colours.len(), bytes.len()) {
-        if legal(r) {
-            return 0;
-        }
-        return machine::ILLEGAL;
+    if !fits(r.blocks, r.pace, words.len(), colours.len(), bytes.len()) {
+        return Err(Refusal::Unfit);
     }
-    machine::UNFIT
+    if !legal(r) {
+        return Err(Refusal::Illegal);
+    }
+    Ok(())
 }
 
 // Refusal 3 for a block and a word.
-pub fn word_refusal(m: u32, b: u32, w: u32) -> u32
+pub fn word_refusal(m: u32, b: u32, w: u32) -> Result<(), Refusal>
     requires { m ≤ 16384 }
-    ensures { result ≡ word_refusal m b w }
+    ensures { refused_by result ≡ word_refusal m b w }
 {
-    if part_colours::is_block(m, b) {
-        if w <= 7 {
-            return 0;
-        }
+    if part_colours::is_block(m, b) && w <= 7 {
+        return Ok(());
     }
-    machine::NO_PLACE
+    Err(Refusal::NoPlace)
 }
 
 // Refusal 3 for the holder of a new block: 0, 0 is the root.
-pub fn holder_place(m: u32, b: u32, w: u32) -> u32
+pub fn holder_place(m: u32, b: u32, w: u32) -> Result<(), Refusal>
     requires { m ≤ 16384 }
-    ensures { result ≡ holder_place m b w }
+    ensures { refused_by result ≡ holder_place m b w }
 {
-    if b == 0 {
-        if w == 0 {
-            return 0;
-        }
-        return machine::NO_PLACE;
+    match (b, w) {
+        (0, 0) => Ok(()),
+        (0, _) => Err(Refusal::NoPlace),
+        _ => word_refusal(m, b, w),
     }
-    word_refusal(m, b, w)
 }
 
 // Refusal 4 for a target.
-pub fn target_place(m: u32, t: u32) -> u32
+pub fn target_place(m: u32, t: u32) -> Result<(), Refusal>
     requires { m ≤ 16384 }
-    ensures { result ≡ target_place m t }
+    ensures { refused_by result ≡ target_place m t }
 {
     if is_block_or_none(m, t) {
-        return 0;
+        return Ok(());
     }
-    machine::NO_TARGET
+    Err(Refusal::NoTarget)
 }
 
-// The refusal for a block in that state: gone where it is free or doomed, 8 outside the layout.
-pub fn refusal_of(gone: u32, s: State) -> u32
-    ensures { result ≡ refusal_of gone s }
+// Why a block isn't there for a call: it is free or doomed, or its colour is outside the layout.
+#[derive(Clone, Copy, PartialEq, Eq)]
+pub enum Absent {
+    Gone,
+    Outside,
+}
+
+// Whether a block in that state is there for a call. What refuses one that is gone is the caller's to say.
+pub fn presence(s: State) -> Result<(), Absent>
+    ensures { (gone : ℕ) → refused_as gone result ≡ refusal_of gone s }
 {
     match s {
-        State::LiveWhite => 0,
-        State::Doomed => gone,
-        State::Grey => 0,
-        State::Black => 0,
-        State::Free => gone,
-        State::Outside => machine::DAMAGE,
+        State::LiveWhite | State::Grey | State::Black => Ok(()),
+        State::Doomed | State::Free => Err(Absent::Gone),
+        State::Outside => Err(Absent::Outside),
+    }
+}
+
+// The same as a test, where a block that is gone is refused so.
+fn present(gone: Refusal, s: State) -> Result<(), Refusal>
+    ensures { refused_by result ≡ refusal_of (number gone) s }
+{
+    match presence(s) {
+        Ok(()) => Ok(()),
+        Err(Absent::Gone) => Err(gone),
+        Err(Absent::Outside) => Err(Refusal::Damage),
     }
 }
 
 // Refusals 8 and 5 for the block to read or write.
-pub fn holder_refusal(m: u32, phase: u32, position: u32, colours: &[u32], b: u32) -> u32
+pub fn holder_refusal(
+    m: u32,
+    phase: u32,
+    position: u32,
+    colours: &[u32],
+    b: u32,
+) -> Result<(), Refusal>
     requires { (m ≤ 16384) × CellsFit m colours.now × Block m b }
-    ensures { (r : Regs) (ws bs : List ℕ) → r.blocks ≡ m → r.phase ≡ phase → r.position ≡ position → result ≡ holder_refusal (heap r ws colours.now bs) b }
+    ensures { (r : Regs) (ws bs : List ℕ) → r.blocks ≡ m → r.phase ≡ phase → r.position ≡ position → refused_by result ≡ holder_refusal (heap r ws colours.now bs) b }
 {
-    refusal_of(
-        machine::GONE,
+    present(
+        Refusal::Gone,
         part_state::state_at(m, phase, position, colours, b),
     )
 }
 
 // Refusals 8 and 6 for the target, which is 0 or a block.
-pub fn target_refusal(m: u32, phase: u32, position: u32, colours: &[u32], t: u32) -> u32
+pub fn target_refusal(
+    m: u32,
+    phase: u32,
+    position: u32,
+    colours: &[u32],
+    t: u32,
+) -> Result<(), Refusal>
     requires { (m ≤ 16384) × CellsFit m colours.now × (t ≢ 0 → Block m t) }
-    ensures { (r : Regs) (ws bs : List ℕ) → r.blocks ≡ m → r.phase ≡ phase → r.position ≡ position → result ≡ target_refusal (heap r ws colours.now bs) t }
+    ensures { (r : Regs) (ws bs : List ℕ) → r.blocks ≡ m → r.phase ≡ phase → r.position ≡ position → refused_by result ≡ target_refusal (heap r ws colours.now bs) t }
 {
     if t == 0 {
-        return 0;
+        return Ok(());
     }
-    refusal_of(
-        machine::TARGET_GONE,
+    present(
+        Refusal::TargetGone,
         part_state::state_at(m, phase, position, colours, t),
     )
 }
 
 // Every refusal of Read, where 1 and 2 are known, e: then 3, then 8 and 5. Who reads many blocks tests for 1 and 2 once.
 pub fn read_refusal_after(
-    e: u32,
+    e: Result<(), Refusal>,
     r: Regs,
     words: &[u32],
     colours: &[u32],
     bytes: &[u8],
     b: u32,
     w: u32,
-) -> u32
-    requires { e ≡ entry (heap r words.now colours.now bytes.now) }
-    ensures { result ≡ read_refusal b w (heap r words.now colours.now bytes.now) }
+) -> Result<(), Refusal>
+    requires { refused_by e ≡ entry (heap r words.now colours.now bytes.now) }
+    ensures { refused_by result ≡ read_refusal b w (heap r words.now colours.now bytes.now) }
 {
-    if e != 0 {
-        return e;
-    }
-    let p = word_refusal(r.blocks, b, w);
-    if p != 0 {
-        return p;
-    }
+    e?;
+    word_refusal(r.blocks, b, w)?;
     holder_refusal(r.blocks, r.phase, r.position, colours, b)
 }
 
@@ -239,4 +258,14 @@ pub fn done(r: Regs, v: u32) -> Outcome
     ensures { (ws cs bs : List ℕ) → given result ws cs bs ≡ done v (heap r ws cs bs) }
 {
     answered(r, 0, v, 0)
+}
+
+// What Read answers where it is refused by n: no value.
+pub fn unread(n: u32) -> ReadAnswer
+    ensures { result ≡ read_refused n }
+{
+    ReadAnswer {
+        refusal: n,
+        ..ReadAnswer::default()
+    }
 }

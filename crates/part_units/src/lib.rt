@@ -3,7 +3,7 @@
 // units an allocation has to pay.
 #![tactic(auto)]
 
-ghost use Rattle.std.specs.Prelude.{◌≡◌, ℕ, ◌≤◌, ◌≢◌, List, length};
+ghost use Rattle.std.specs.Prelude.{◌≡◌, ℕ, ◌≤◌, ◌≢◌, List, length, Ok};
 ghost use Rattle.machine.specs.Registers.{idle, marking};
 ghost use Rattle.machine.specs.Colouring.{coloured, CellsFit};
 ghost use Rattle.machine.specs.WellFormed.{Block};
@@ -12,11 +12,9 @@ ghost use Rattle.machine.specs.Ready.{Ready};
 ghost use Rattle.machine.specs.OneUnit.{word_met, begun, turned};
 ghost use Rattle.machine.specs.Units.{run, ran};
 ghost use Rattle.machine.specs.Allocate.{units_due};
-ghost use Rattle.part_step.specs.declared.End.TheVariants.{Finished};
 ghost use Rattle.part_step.specs.Going.{Went};
 
-use machine::{Ran, Regs, Step};
-use part_step::{End, Stretch};
+use machine::{Damaged, Ran, Regs, Step};
 
 // Idle: a cycle begins, and a root that isn't 0 becomes grey.
 pub fn begin(r: Regs, colours: &mut [u32]) -> Regs
@@ -25,7 +23,7 @@ pub fn begin(r: Regs, colours: &mut [u32]) -> Regs
 {
     let mut s = r;
     s.phase = machine::MARKING;
-    s.cycle = std::num::wrapping_add_u32(r.cycle, 1);
+    s.cycle = r.cycle.wrapping_add(1);
     if r.root == 0 {
         return s;
     }
@@ -64,19 +62,19 @@ pub fn met_word(r: Regs, colours: &[u32]) -> u32
 }
 
 // One unit that was done.
-pub fn single(r: Regs) -> Stretch
-    ensures { result ≡ (record { regs = r; units = 1; end = Finished }) }
+pub fn single(r: Regs) -> Ran
+    ensures { result ≡ (record { regs = r; units = 1; end = Ok tt }) }
 {
-    Stretch {
+    Ran {
         regs: r,
         units: 1,
-        end: End::Finished,
+        end: Ok(()),
     }
 }
 
 // The next units, at most n: the step that phase, grey head and colour word pick begins a cycle, turns, marks or sweeps, and units
 // that mark or sweep go on as long as their phase does. At least one unit is done, or damage ended it.
-pub fn stretch(r: Regs, words: &mut [u32], colours: &mut [u32], bytes: &mut [u8], n: u32) -> Stretch
+pub fn stretch(r: Regs, words: &mut [u32], colours: &mut [u32], bytes: &mut [u8], n: u32) -> Ran
     requires { Ready (heap r words.old colours.old bytes.old) × (1 ≤ n) }
     ensures { Went n (heap r words.old colours.old bytes.old) result words.new colours.new bytes.new }
 {
@@ -85,10 +83,10 @@ pub fn stretch(r: Regs, words: &mut [u32], colours: &mut [u32], bytes: &mut [u8]
         Step::Begin => single(begin(r, colours)),
         Step::Turn => single(turn(r)),
         Step::Mark => part_mark::marks(r, &words[..], colours, &bytes[..], n),
-        Step::Damage => Stretch {
+        Step::Damage => Ran {
             regs: r,
             units: 0,
-            end: End::Damaged,
+            end: Err(Damaged),
         },
         _ => part_sweep::sweeps(r, words, colours, bytes, n),
     }
@@ -103,22 +101,19 @@ pub fn run(r: Regs, words: &mut [u32], colours: &mut [u32], bytes: &mut [u8], n:
     let mut left = n;
     while left != 0 {
         let o = stretch(s, words, colours, bytes, left);
-        let t = o.regs;
-        let end = o.end;
-        let End::Finished = end else {
+        let Ok(()) = o.end else {
             return Ran {
-                regs: t,
                 units: n - left + o.units,
-                refusal: machine::DAMAGE,
+                ..o
             };
         };
-        s = t;
+        s = o.regs;
         left -= o.units;
     }
     Ran {
         regs: s,
         units: n,
-        refusal: 0,
+        end: Ok(()),
     }
 }
 
@@ -130,8 +125,5 @@ pub fn units_due(r: Regs) -> u32
     if r.pace != 0 {
         return r.pace;
     }
-    if r.count == 0 {
-        return 2 * r.blocks;
-    }
-    2 * ((r.blocks + (r.count - 1)) / r.count)
+    2 * r.blocks.div_ceil(r.count.max(1))
 }

@@ -4,13 +4,13 @@ use Rattle.machine.proofs.Refusals.{fits_most, unfit, illegal, entered}
 use Rattle.part_checks.proofs.entry.Goals as goal
 
 pub legal-requires : goal.legal-requires
-legal-requires c = fits_most _ _ _ _ _ (so c.fits.ensures c.if-fits.true)
+legal-requires c = fits_most _ _ _ _ _ (so c.fits.ensures c.if-not-fits.false)
 
-pub returns-then-legal : goal.returns-then-legal
-returns-then-legal c = entered _ (so c.fits.ensures c.if-fits.true) (so c.legal.ensures c.if-legal.true)
+pub returns-then-not-fits : goal.returns-then-not-fits
+returns-then-not-fits c = unfit _ (so c.fits.ensures c.if-not-fits.true)
 
-pub returns-then-fits : goal.returns-then-fits
-returns-then-fits c = illegal _ (so c.fits.ensures c.if-fits.true) (so c.legal.ensures c.if-legal.false)
+pub returns-then-not-legal : goal.returns-then-not-legal
+returns-then-not-legal c = illegal _ (so c.fits.ensures c.if-not-fits.false) (so c.legal.ensures c.if-not-legal.true)
 
 pub returns : goal.returns
-returns c = unfit _ (so c.fits.ensures c.if-fits.false)
+returns c = entered _ (so c.fits.ensures c.if-not-fits.false) (so c.legal.ensures c.if-not-legal.false)

@@ -9,4 +9,4 @@ pub state_at-requires : goal.state_at-requires
 state_at-requires c = (c.requires.0, c.requires.1, c.requires.2 c.if-t-eq0.false)
 
 pub returns : goal.returns
-returns c = λ r ws bs m p q. target_as _ _ _ _ c.if-t-eq0.false (c.state_at.ensures r m p q) c.refusal_of.ensures
+returns c = λ r ws bs m p q. target_as _ _ _ _ c.if-t-eq0.false (c.state_at.ensures r m p q) c.present.ensures

@@ -28,20 +28,21 @@ pub shape_of-bytes-in_default : goal.shape_of-bytes-in_default
 shape_of-bytes-in_default c = c.stretch-o.auto.bytes ∙ c.loop-left.invariant.2
 
 pub returns-in_default : goal.returns-in_default
-returns-in_default c = sym (c.loop-left.invariant.5 ∙ c.stretch-o.ensures.whole _ ∙ left_off _ _ _ c.in_default.is)
+returns-in_default c =
+    rw c.in_default.is (sym (c.loop-left.invariant.5 ∙ c.stretch-o.ensures.whole _ ∙ left_off _ _ _ c.in_default.is))
 
 pub overflow_sub-left : goal.overflow_sub-left
 overflow_sub-left c = c.stretch-o.ensures.within
 
 pub loop-left-smaller : goal.loop-left-smaller
 loop-left-smaller c =
-    let l = c.stretch-o.ensures.onward c.in-Finished.is in
+    let l = c.stretch-o.ensures.onward c.in-Ok.is in
     let b = c.stretch-o.ensures.within in
     omega arith
 
 pub loop-left-preserved : goal.loop-left-preserved
 loop-left-preserved c =
-    let e = c.in-Finished.is in
+    let e = c.in-Ok.is in
     let b = c.stretch-o.ensures.within in
     let l = c.loop-left.invariant.3 in
     (c.stretch-o.auto.words ∙ c.loop-left.invariant.0, c.stretch-o.auto.colours ∙ c.loop-left.invariant.1, c.stretch-o.auto.bytes ∙ c.loop-left.invariant.2, omega arith, c.stretch-o.ensures.ready e, run_at _ _ _ _ (c.loop-left.invariant.5 ∙ c.stretch-o.ensures.whole _ ∙ left_on _ _ _ e) refl (omega arith))
