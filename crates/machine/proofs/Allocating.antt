@@ -4,7 +4,6 @@
 --     list_none, list_uncounted, list_counted, list_bad, list_good     the tests of the free list
 --     new_black, new_white              the new block's colour
 --     taken_as, held_root, held_word    the taking and the storing
---     take_none, take_stops, take_passes     the tests after the units
 --     after_refused, after_done         what follows the units
 --     list_zero, take_zero, holder_zero     what tests that refuse nothing establish
 --     damaged_ends, undamaged           units that met damage, and units that met none
@@ -116,19 +115,6 @@ module _ (h : Heap) where
   pub held_word : (b w x : ℕ) {y : Heap} → b ≢ 0 → y ≡ put_reference b w x h → y ≡ held b w x h
   unfolding held
   held_word b w x n e = simp (ne_eqb b 0 n) e
-
-  module _ (b : ℕ) {n : ℕ} where
-    pub take_none : b ≡ 0 → n ≡ list_refusal h → n ≡ take_refusal b h
-    unfolding take_refusal ◌▷◌
-    take_none z e = simp (eq-eqb b 0 z) e
-
-    pub take_stops : b ≢ 0 → n ≡ holder_refusal h b → n ≢ 0 → n ≡ take_refusal b h
-    unfolding take_refusal
-    take_stops m e z = simp (ne_eqb b 0 m) (stops (list_refusal h) e z)
-
-    pub take_passes : {x : ℕ} → b ≢ 0 → x ≡ holder_refusal h b → x ≡ 0 → n ≡ list_refusal h → n ≡ take_refusal b h
-    unfolding take_refusal
-    take_passes m e z l = simp (ne_eqb b 0 m) (passes e z l)
 
   -- an allocation that is not refused after its units takes from a free list that is not refused
   pub take_zero : (b : ℕ) → take_refusal b h ≡ 0 → list_refusal h ≡ 0

@@ -1,6 +1,5 @@
 -- Laws of the tests before several blocks are taken, one for each way through the code, and what they establish.
 --     several_head, several_few, several_unwalked, several_repeats, several_good     the tests of the first n of the free list
---     several_none, several_stops, several_passes     the tests of the holder, then of the list
 --     Gathered, gathered       what refusal number 0 establishes
 -- Assumes nothing.
 use Prim.Native.Nat.{ℕ, ◌≤◌, ◌<◌}
@@ -42,19 +41,6 @@ module _ (h : Heap) (n : ℕ) {e : ℕ} (q : e ≡ head_refusal h.regs.free h.re
         pub several_good : distinct (first_frees n h) ≡ true → 0 ≡ several_refusal n h
         unfolding several_refusal
         several_good d = passes q z (simp (le-leb n h.regs.count l) (passes refl refl (simp (w, d))))
-
-module _ (h : Heap) (n b : ℕ) {e : ℕ} where
-  pub several_none : b ≡ 0 → e ≡ several_refusal n h → e ≡ take_several_refusal n b h
-  unfolding take_several_refusal ◌▷◌
-  several_none z q = simp (eq-eqb b 0 z) q
-
-  pub several_stops : b ≢ 0 → e ≡ holder_refusal h b → e ≢ 0 → e ≡ take_several_refusal n b h
-  unfolding take_several_refusal
-  several_stops m q z = simp (ne_eqb b 0 m) (stops (several_refusal n h) q z)
-
-  pub several_passes : {x : ℕ} → b ≢ 0 → x ≡ holder_refusal h b → x ≡ 0 → e ≡ several_refusal n h → e ≡ take_several_refusal n b h
-  unfolding take_several_refusal
-  several_passes m q z l = simp (ne_eqb b 0 m) (passes q z l)
 
 -- what the tests establish where none refuses
 pub record Gathered (n b : ℕ) (h : Heap) : Type 0 where

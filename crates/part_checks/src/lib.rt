@@ -2,7 +2,7 @@
 // Then how a call gives back its answer: answered, and for a call that did no units refused and done.
 #![tactic(auto)]
 
-ghost use Rattle.std.specs.Prelude.{◌≡◌, ◌≢◌, true, ◌&&◌, ◌||◌, List, ℕ, ◌≤◌, leb, eqb, length};
+ghost use Rattle.std.specs.Prelude.{◌≡◌, ◌≢◌, true, ◌&&◌, ◌||◌, List, ℕ, ◌≤◌, leb, eqb, length, if◌then◌else◌};
 ghost use Rattle.machine.specs.WellFormed.{Block};
 ghost use Rattle.machine.specs.Block.{is_block};
 ghost use Rattle.machine.specs.Heap.{heap};
@@ -192,6 +192,18 @@ pub fn holder_refusal(
         Refusal::Gone,
         part_state::state_at(m, phase, position, colours, b),
     )
+}
+
+// Refusals 8 and 5 for the holder of new blocks, which is tested again after the units. With b 0 the holder is the root, which is refused
+// by neither.
+pub fn holder_after(r: Regs, colours: &[u32], b: u32) -> Result<(), Refusal>
+    requires { (r.blocks ≤ 16384) × CellsFit r.blocks colours.now × (b ≢ 0 → Block r.blocks b) }
+    ensures { (ws bs : List ℕ) → refused_by result ≡ (if eqb b 0 then 0 else holder_refusal (heap r ws colours.now bs) b) }
+{
+    if b == 0 {
+        return Ok(());
+    }
+    holder_refusal(r.blocks, r.phase, r.position, colours, b)
 }
 
 // Refusals 8 and 6 for the target, which is 0 or a block.

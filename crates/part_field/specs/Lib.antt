@@ -1,2 +1,3 @@
--- How far a walk comes.
+-- How far a walk comes, and what it finds.
 pub mod Walks
+pub mod Finds

@@ -1,4 +1,4 @@
-// The walk along an object's blocks, to the block that has a field: how far it comes, and its first refusal.
+// The walk along an object's blocks, to the block that has a field: how far it comes, its first refusal, and the block that it finds.
 #![tactic(auto)]
 
 ghost use Rattle.std.specs.Prelude.{◌≡◌, ℕ, ◌≤◌};
@@ -8,9 +8,11 @@ ghost use Rattle.machine.specs.Heap.{heap};
 ghost use Rattle.machine.specs.Ready.{Ready};
 ghost use Rattle.machine.specs.State.{holder_refusal};
 ghost use Rattle.part_field.specs.Walks.{Walks};
-ghost use Rattle.machine.specs.Field.{field_place, link_refusal, walk_refusal};
+ghost use Rattle.machine.specs.Refusal.{refused_by};
+ghost use Rattle.machine.specs.Field.{field_place, field_block, link_refusal, walk_refusal};
+ghost use Rattle.part_field.specs.Finds.{Finds};
 
-use machine::Regs;
+use machine::{Refusal, Regs};
 
 // How far a walk came: the block where it stands, and the links that are left to follow.
 #[derive(Clone, Copy)]
@@ -20,46 +22,53 @@ pub struct Walked {
 }
 
 // Refusal 3 for a block and a field.
-pub fn field_place(m: u32, b: u32, k: u32) -> u32
+pub fn field_place(m: u32, b: u32, k: u32) -> Result<(), Refusal>
     requires { m ≤ 16384 }
-    ensures { result ≡ field_place m b k }
+    ensures { refused_by result ≡ field_place m b k }
 {
-    if part_colours::is_block(m, b) {
-        if k <= machine::LAST_FIELD {
-            return 0;
-        }
+    if part_colours::is_block(m, b) && k <= machine::LAST_FIELD {
+        return Ok(());
     }
-    machine::NO_PLACE
+    Err(Refusal::NoPlace)
 }
 
 // Refusals 3 and 8 for following b's link: 3 where it is no reference or null, 8 where it names no block.
-fn link_refusal(r: Regs, words: &[u32], colours: &[u32], bytes: &[u8], b: u32) -> u32
+fn link_refusal(
+    r: Regs,
+    words: &[u32],
+    colours: &[u32],
+    bytes: &[u8],
+    b: u32,
+) -> Result<(), Refusal>
     requires { Ready (heap r words.now colours.now bytes.now) × Block r.blocks b }
-    ensures { result ≡ link_refusal b (heap r words.now colours.now bytes.now) }
+    ensures { refused_by result ≡ link_refusal b (heap r words.now colours.now bytes.now) }
 {
     let at = b as usize - 2;
     if part_cells::bit(bytes[at], machine::LINK as usize) {
         let to = words[8 * at + machine::LINK as usize];
         if part_colours::is_block(r.blocks, to) {
-            return 0;
+            return Ok(());
         }
         if to == 0 {
-            return machine::NO_PLACE;
+            return Err(Refusal::NoPlace);
         }
-        return machine::DAMAGE;
+        return Err(Refusal::Damage);
     }
-    machine::NO_PLACE
+    Err(Refusal::NoPlace)
 }
 
 // Refusals 8 and 5 of the block b, then those of its link.
-fn follow_refusal(r: Regs, words: &[u32], colours: &[u32], bytes: &[u8], b: u32) -> u32
+fn follow_refusal(
+    r: Regs,
+    words: &[u32],
+    colours: &[u32],
+    bytes: &[u8],
+    b: u32,
+) -> Result<(), Refusal>
     requires { Ready (heap r words.now colours.now bytes.now) × Block r.blocks b }
-    ensures { result ≡ holder_refusal (heap r words.now colours.now bytes.now) b ▷ link_refusal b (heap r words.now colours.now bytes.now) }
+    ensures { refused_by result ≡ holder_refusal (heap r words.now colours.now bytes.now) b ▷ link_refusal b (heap r words.now colours.now bytes.now) }
 {
-    let d = part_checks::holder_refusal(r.blocks, r.phase, r.position, colours, b);
-    if d != 0 {
-        return d;
-    }
+    part_checks::holder_refusal(r.blocks, r.phase, r.position, colours, b)?;
     link_refusal(r, words, colours, bytes, b)
 }
 
@@ -71,12 +80,12 @@ pub fn walk(r: Regs, words: &[u32], colours: &[u32], bytes: &[u8], b: u32, links
     let mut at = b;
     let mut left = links;
     while left > 0 {
-        if follow_refusal(r, words, colours, bytes, at) != 0 {
+        let Ok(()) = follow_refusal(r, words, colours, bytes, at) else {
             return Walked {
                 block: at,
                 left: left,
             };
-        }
+        };
         at = words[8 * (at as usize - 2) + machine::LINK as usize];
         left -= 1;
     }
@@ -84,12 +93,35 @@ pub fn walk(r: Regs, words: &[u32], colours: &[u32], bytes: &[u8], b: u32, links
 }
 
 // The first refusal of a walk that came so far, or 0: where it stopped early that of following on, else 8 and 5 of its last block.
-pub fn walk_refusal(r: Regs, words: &[u32], colours: &[u32], bytes: &[u8], x: Walked) -> u32
+pub fn walk_refusal(
+    r: Regs,
+    words: &[u32],
+    colours: &[u32],
+    bytes: &[u8],
+    x: Walked,
+) -> Result<(), Refusal>
     requires { Ready (heap r words.now colours.now bytes.now) × Block r.blocks x.block }
-    ensures { (links b : ℕ) → Walks (heap r words.now colours.now bytes.now) links b x → result ≡ walk_refusal links b (heap r words.now colours.now bytes.now) }
+    ensures { (links b : ℕ) → Walks (heap r words.now colours.now bytes.now) links b x → refused_by result ≡ walk_refusal links b (heap r words.now colours.now bytes.now) }
 {
     if x.left != 0 {
         return follow_refusal(r, words, colours, bytes, x.block);
     }
     part_checks::holder_refusal(r.blocks, r.phase, r.position, colours, x.block)
+}
+
+// The block that so many links lead to from the block b on, or the first refusal on the way.
+pub fn find(
+    r: Regs,
+    words: &[u32],
+    colours: &[u32],
+    bytes: &[u8],
+    b: u32,
+    links: u32,
+) -> Result<u32, Refusal>
+    requires { Ready (heap r words.now colours.now bytes.now) × Block r.blocks b }
+    ensures { Finds result (walk_refusal links b (heap r words.now colours.now bytes.now)) (field_block links b (heap r words.now colours.now bytes.now)) }
+{
+    let x = walk(r, words, colours, bytes, b, links);
+    walk_refusal(r, words, colours, bytes, x)?;
+    Ok(x.block)
 }

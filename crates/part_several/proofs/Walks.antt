@@ -8,11 +8,12 @@
 --     repeats, differs         the first n of the free list are all different exactly where the search doesn't find the last
 --     within_step              what a step of the search for a block asks for
 --     met_on, met_found, met_end              a step of the search for a block, the block found, the end
+--     heads_agree, heads_differ     a head and a count that are both 0 or both not, and others
 -- Assumes nothing.
 use Prim.Native.Nat.{ℕ, zero, suc, ◌+◌, ◌-◌, ◌*◌, ◌<◌, ◌≤◌}
 use mathlib.Core.Path.{◌≡◌, refl, sym, ◌∙◌, ap}
 use mathlib.Core.Logic.{◌≢◌}
-use mathlib.Core.Bool.{Bool, true, false, ◌&&◌, ◌||◌, not}
+use mathlib.Core.Bool.{Bool, true, false, ◌&&◌, ◌||◌, not, beq}
 use mathlib.Core.List.{List}
 use native.Mathlib.Nat.{add-zero}
 use native.Mathlib.Omega.{arith}
@@ -29,6 +30,7 @@ use Rattle.machine.specs.WellFormed.{Block}
 use Rattle.machine.specs.Several.{link_of, frees, first_frees, list_walks, amongst, distinct}
 use Rattle.machine.proofs.Tests.{both_true, both, by_test, clash, differ}
 use Rattle.machine.proofs.Entering.{none_or_block}
+use Rattle.machine.proofs.Steps.{never}
 use Rattle.machine.proofs.Walking.{onward, onward_link, walks_blocks, last_new, last_again}
 use Rattle.part_several.specs.Walk.{fits_at, walked_to, Within}
 
@@ -184,3 +186,15 @@ module _ (h : Heap) (t : Bool) (x n a : ℕ) (i : t ≡ amongst x (frees n a h))
   pub met_end : n ≡ 0 → false ≡ t
   unfolding frees amongst
   met_end e = sym (rw e at i)
+
+pub heads_agree : (p q : Bool) → beq p q ≡ true → ◌≡◌ {A = ℕ} 0 (if p then (if q then 0 else 8) else (if q then 8 else 0))
+heads_agree true true e = refl
+heads_agree true false e = never (cc)
+heads_agree false true e = never (cc)
+heads_agree false false e = refl
+
+pub heads_differ : (p q : Bool) → beq p q ≡ false → ◌≡◌ {A = ℕ} 8 (if p then (if q then 0 else 8) else (if q then 8 else 0))
+heads_differ true true e = never (cc)
+heads_differ true false e = refl
+heads_differ false true e = refl
+heads_differ false false e = never (cc)

@@ -6,10 +6,11 @@ ghost use Rattle.std.specs.Prelude.{◌≡◌, ◌≢◌, List, ℕ, ◌≤◌, 
 ghost use Rattle.machine.specs.WellFormed.{Block};
 ghost use Rattle.machine.specs.Colouring.{coloured, CellsFit};
 ghost use Rattle.machine.specs.Heap.{heap};
+ghost use Rattle.machine.specs.Refusal.{refused_by};
 ghost use Rattle.machine.specs.Several.{frees, amongst, head_refusal, several_refusal, take_several_refusal};
 ghost use Rattle.part_several.specs.Walk.{fits_at, walked_to, Within};
 
-use machine::Regs;
+use machine::{Refusal, Regs};
 
 // Whether a is a block that can be taken: coloured free, with a link that is 0 or a block. It is 0 or a block.
 pub fn fits_at(m: u32, words: &[u32], colours: &[u32], a: u32) -> bool
@@ -63,54 +64,45 @@ pub fn met(words: &[u32], head: u32, n: u32, x: u32) -> bool
 }
 
 // Refusal 8 for a free head that is 0 while the count isn't, or the reverse.
-pub fn head_refusal(head: u32, count: u32) -> u32
-    ensures { result ≡ head_refusal head count }
+pub fn head_refusal(head: u32, count: u32) -> Result<(), Refusal>
+    ensures { refused_by result ≡ head_refusal head count }
 {
-    if head == 0 {
-        if count == 0 {
-            return 0;
-        }
-        return machine::DAMAGE;
+    if (head == 0) == (count == 0) {
+        return Ok(());
     }
-    if count == 0 {
-        return machine::DAMAGE;
-    }
-    0
+    Err(Refusal::Damage)
 }
 
 // Refusals 8 and 7 for the first n of the free list.
-pub fn several_refusal(r: Regs, words: &[u32], colours: &[u32], n: u32) -> u32
+pub fn several_refusal(r: Regs, words: &[u32], colours: &[u32], n: u32) -> Result<(), Refusal>
     requires { (r.blocks ≤ 16384) × (length words.now ≡ 8 * r.blocks) × CellsFit r.blocks colours.now × (r.free ≢ 0 → Block r.blocks r.free) × (1 ≤ n) }
-    ensures { (bs : List ℕ) → result ≡ several_refusal n (heap r words.now colours.now bs) }
+    ensures { (bs : List ℕ) → refused_by result ≡ several_refusal n (heap r words.now colours.now bs) }
 {
-    let e = head_refusal(r.free, r.count);
-    if e != 0 {
-        return e;
-    }
+    head_refusal(r.free, r.count)?;
     if r.count < n {
-        return machine::NO_ROOM;
+        return Err(Refusal::NoRoom);
     }
     let last = walked_to(r.blocks, words, colours, r.free, n);
     if last == 0 {
-        return machine::DAMAGE;
+        return Err(Refusal::Damage);
     }
     if met(words, r.free, n - 1, last) {
-        return machine::DAMAGE;
+        return Err(Refusal::Damage);
     }
-    0
+    Ok(())
 }
 
 // Refusals 8 and 5 for the holder, which is tested after the units, then 8 and 7 for the first n of the free list.
-pub fn take_several_refusal(r: Regs, words: &[u32], colours: &[u32], n: u32, b: u32) -> u32
+pub fn take_several_refusal(
+    r: Regs,
+    words: &[u32],
+    colours: &[u32],
+    n: u32,
+    b: u32,
+) -> Result<(), Refusal>
     requires { (r.blocks ≤ 16384) × (length words.now ≡ 8 * r.blocks) × CellsFit r.blocks colours.now × (r.free ≢ 0 → Block r.blocks r.free) × (1 ≤ n) × (b ≢ 0 → Block r.blocks b) }
-    ensures { (bs : List ℕ) → result ≡ take_several_refusal n b (heap r words.now colours.now bs) }
+    ensures { (bs : List ℕ) → refused_by result ≡ take_several_refusal n b (heap r words.now colours.now bs) }
 {
-    if b == 0 {
-        return several_refusal(r, words, colours, n);
-    }
-    let d = part_checks::holder_refusal(r.blocks, r.phase, r.position, colours, b);
-    if d != 0 {
-        return d;
-    }
+    part_checks::holder_after(r, colours, b)?;
     several_refusal(r, words, colours, n)
 }

@@ -1,13 +1,14 @@
 // Taking a block: the tests of the holder and of the free list, then the first free block is taken, coloured and held.
 #![tactic(auto)]
 
-ghost use Rattle.std.specs.Prelude.{◌≡◌, ◌≢◌, List, ℕ, ◌≤◌, ◌*◌, max, length};
+ghost use Rattle.std.specs.Prelude.{◌≡◌, ◌≢◌, List, ℕ, ◌≤◌, ◌*◌, length};
 ghost use Rattle.machine.specs.WellFormed.{Block};
 ghost use Rattle.machine.specs.Colouring.{CellsFit};
 ghost use Rattle.machine.specs.Heap.{heap};
+ghost use Rattle.machine.specs.Refusal.{refused_by};
 ghost use Rattle.machine.specs.Allocate.{first_fits, list_refusal, taken, held, take_refusal};
 
-use machine::Regs;
+use machine::{Refusal, Regs};
 
 // Whether the first free block is coloured free and its link is 0 or a block.
 pub fn first_fits(r: Regs, words: &[u32], colours: &[u32]) -> bool
@@ -21,33 +22,23 @@ pub fn first_fits(r: Regs, words: &[u32], colours: &[u32]) -> bool
 }
 
 // Refusals 8 and 7 for the free list.
-pub fn list_refusal(r: Regs, words: &[u32], colours: &[u32]) -> u32
+pub fn list_refusal(r: Regs, words: &[u32], colours: &[u32]) -> Result<(), Refusal>
     requires { (r.blocks ≤ 16384) × (length words.now ≡ 8 * r.blocks) × CellsFit r.blocks colours.now × (r.free ≢ 0 → Block r.blocks r.free) }
-    ensures { (bs : List ℕ) → result ≡ list_refusal (heap r words.now colours.now bs) }
+    ensures { (bs : List ℕ) → refused_by result ≡ list_refusal (heap r words.now colours.now bs) }
 {
     if r.free == 0 {
         if r.count == 0 {
-            return machine::NO_ROOM;
+            return Err(Refusal::NoRoom);
         }
-        return machine::DAMAGE;
+        return Err(Refusal::Damage);
     }
     if r.count == 0 {
-        return machine::DAMAGE;
+        return Err(Refusal::Damage);
     }
     if first_fits(r, words, colours) {
-        return 0;
+        return Ok(());
     }
-    machine::DAMAGE
-}
-
-// The mark once the block b is handed out.
-fn raised(mark: u32, b: u32) -> u32
-    ensures { result ≡ max mark b }
-{
-    if mark < b {
-        return b;
-    }
-    mark
+    Err(Refusal::Damage)
 }
 
 // The first free block is taken off the free list, its word 0 zeroed, and coloured; the mark is raised to it. Answers the registers
@@ -60,7 +51,7 @@ pub fn take(r: Regs, words: &mut [u32], colours: &mut [u32]) -> Regs
     let mut s = r;
     s.free = words[at];
     s.count = r.count - 1;
-    s.mark = raised(r.mark, r.free);
+    s.mark = r.mark.max(r.free);
     words[at] = 0;
     let c = part_state::new_colour(r.phase, r.position, r.free);
     part_colours::paint(colours, r.free, c);
@@ -82,16 +73,10 @@ pub fn hold(r: Regs, words: &mut [u32], bytes: &mut [u8], b: u32, w: u32, x: u32
 }
 
 // Refusals 8 and 5 for the holder, which is tested after the units, then 8 and 7 for the free list.
-pub fn take_refusal(r: Regs, words: &[u32], colours: &[u32], b: u32) -> u32
+pub fn take_refusal(r: Regs, words: &[u32], colours: &[u32], b: u32) -> Result<(), Refusal>
     requires { (r.blocks ≤ 16384) × (length words.now ≡ 8 * r.blocks) × CellsFit r.blocks colours.now × (r.free ≢ 0 → Block r.blocks r.free) × (b ≢ 0 → Block r.blocks b) }
-    ensures { (bs : List ℕ) → result ≡ take_refusal b (heap r words.now colours.now bs) }
+    ensures { (bs : List ℕ) → refused_by result ≡ take_refusal b (heap r words.now colours.now bs) }
 {
-    if b == 0 {
-        return list_refusal(r, words, colours);
-    }
-    let d = part_checks::holder_refusal(r.blocks, r.phase, r.position, colours, b);
-    if d != 0 {
-        return d;
-    }
+    part_checks::holder_after(r, colours, b)?;
     list_refusal(r, words, colours)
 }

@@ -1,6 +1,8 @@
 -- `part_field::walk` meets its contract: what the whole walk gives is what the rest of it gives. Assumes nothing.
-use mathlib.Core.Path.{refl}
+use mathlib.Core.Path.{refl, ap}
 use native.Mathlib.Omega.{arith}
+use Rattle.machine.specs.Refusal.{refused_by}
+use Rattle.machine.proofs.Refusals.{refuses, refused_so}
 use Rattle.machine.proofs.Fields.{way_begins, way_on}
 use Rattle.part_field.proofs.Walking.{walk_stops, walk_ends}
 use Rattle.part_field.proofs.walk.Goals as goal
@@ -13,8 +15,8 @@ pub follow_refusal-requires : goal.follow_refusal-requires
 follow_refusal-requires c =
     let (d, l) = c.requires in (d, c.loop-left.invariant.here)
 
-pub returns-then-follow_refusal-ne0 : goal.returns-then-follow_refusal-ne0
-returns-then-follow_refusal-ne0 c = walk_stops c.loop-left.invariant c.follow_refusal.ensures c.if-follow_refusal-ne0.true
+pub returns-in_default : goal.returns-in_default
+returns-in_default c = walk_stops c.loop-left.invariant (refused_so c.follow_refusal.ensures c.in_default.is) (refuses _)
 
 pub overflow_sub-at : goal.overflow_sub-at
 overflow_sub-at c = c.loop-left.invariant.here.low
@@ -24,7 +26,7 @@ bounds-words-at c =
     let (d, l) = c.requires in let i = c.loop-left.invariant.here in omega arith
 
 pub loop-left-preserved : goal.loop-left-preserved
-loop-left-preserved c = way_on c.loop-left.invariant _ _ _ (omega arith) c.follow_refusal.ensures c.if-follow_refusal-ne0.false refl
+loop-left-preserved c = way_on c.loop-left.invariant _ _ _ (omega arith) c.follow_refusal.ensures (ap refused_by c.in-Ok.is) refl
 
 pub returns : goal.returns
 returns c = walk_ends c.loop-left.invariant (omega arith)

@@ -1,23 +1,20 @@
--- `part_several::take_several_refusal` meets its contract: a law for each way out. Assumes nothing.
-use mathlib.Core.Path.{refl}
-use Rattle.machine.proofs.Gathering.{several_none, several_stops, several_passes}
+-- `part_several::take_several_refusal` meets its contract: the holder refuses, or the free list says. Assumes nothing.
+use Rattle.machine.specs.Several.{take_several_refusal}
+use Rattle.machine.proofs.Tests.{handed_on}
+use Rattle.machine.proofs.Refusals.{stops_by, passes_by}
 use Rattle.part_several.proofs.take_several_refusal.Goals as goal
+
+pub holder_after-requires : goal.holder_after-requires
+holder_after-requires c = (c.requires.0, c.requires.2, c.requires.5)
+
+pub returns-in_err-holder_after : goal.returns-in_err-holder_after
+unfolding take_several_refusal
+returns-in_err-holder_after c =
+    λ bs. rw (handed_on c.from_residual.ensures) (stops_by (c.holder_after.ensures _ bs) _ c.in_err-holder_after.was)
 
 pub several_refusal-requires : goal.several_refusal-requires
 several_refusal-requires c = (c.requires.0, c.requires.1, c.requires.2, c.requires.3, c.requires.4)
 
-pub returns-then-b-eq0 : goal.returns-then-b-eq0
-returns-then-b-eq0 c = λ bs. several_none _ _ _ c.if-b-eq0.true (c.several_refusal.ensures bs)
-
-pub holder_refusal-d-requires : goal.holder_refusal-d-requires
-holder_refusal-d-requires c = (c.requires.0, c.requires.2, c.requires.5 c.if-b-eq0.false)
-
-pub returns-then-d-ne0 : goal.returns-then-d-ne0
-returns-then-d-ne0 c = λ bs. several_stops _ _ _ c.if-b-eq0.false (c.holder_refusal-d.ensures _ _ bs refl refl refl) c.if-d-ne0.true
-
-pub several_refusal-requires-2 : goal.several_refusal-requires-2
-several_refusal-requires-2 c = (c.requires.0, c.requires.1, c.requires.2, c.requires.3, c.requires.4)
-
 pub returns : goal.returns
-returns c =
-    λ bs. several_passes _ _ _ c.if-b-eq0.false (c.holder_refusal-d.ensures _ _ bs refl refl refl) c.if-d-ne0.false (c.several_refusal-2.ensures bs)
+unfolding take_several_refusal
+returns c = λ bs. passes_by (c.holder_after.ensures _ bs) c.in_ok-holder_after.was (c.several_refusal.ensures bs)
