@@ -12,17 +12,10 @@ pub fn read(r: Regs, words: &[u32], colours: &[u32], bytes: &[u8], b: u32, w: u3
     ensures { (record { answer = result; heap = heap r words.now colours.now bytes.now })
         ≡ read b w (heap r words.now colours.now bytes.now) }
 {
-    let e = part_checks::entry(r, words, colours, bytes);
-    let n = part_checks::read_refusal_after(e, r, words, colours, bytes, b, w);
-    if n != 0 {
-        return ReadAnswer {
-            refusal: n,
-            value: 0,
-            units: 0,
-            reference: 0,
-        };
+    match part_checks::read_refusal(r, words, colours, bytes, b, w) {
+        Ok(()) => part_cells::read_word(words, bytes, b, w),
+        Err(refusal) => part_checks::unread(refusal.into()),
     }
-    part_cells::read_word(words, bytes, b, w)
 }
 
 // Look: the block's own eight words, where they stand in the word buffer, or the empty part at the buffer's start.
@@ -30,11 +23,9 @@ pub fn look<'a>(r: Regs, words: &'a [u32], colours: &[u32], bytes: &[u8], b: u32
     ensures { (result.now ≡ look b (heap r words.now colours.now bytes.now))
         × (result.ref_ptr ≡ moved words.entry.ref_ptr (look_at b (heap r words.now colours.now bytes.now))) }
 {
-    let e = part_checks::entry(r, words, colours, bytes);
-    let n = part_checks::read_refusal_after(e, r, words, colours, bytes, b, 0);
-    if n != 0 {
+    let Ok(()) = part_checks::read_refusal(r, words, colours, bytes, b, 0) else {
         return &words[0..0];
-    }
+    };
     let at = 8 * (b as usize - 2);
     &words[at..at + 8]
 }

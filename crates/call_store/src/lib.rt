@@ -4,22 +4,23 @@
 ghost use Rattle.std.specs.Prelude.{◌≡◌};
 ghost use Rattle.machine.specs.Heap.{heap};
 ghost use Rattle.machine.specs.Answers.{given};
+ghost use Rattle.machine.specs.Refusal.{refused_by};
 ghost use Rattle.machine.specs.Store.{store_number, store_refusal, store_reference, root_refusal, set_root};
 
-use machine::{Outcome, Regs};
+use machine::{Outcome, Refusal, Regs};
 
 // Every refusal of Set root: 1, 2, 4, then 8 and 6.
-pub fn root_refusal(r: Regs, words: &[u32], colours: &[u32], bytes: &[u8], t: u32) -> u32
-    ensures { result ≡ root_refusal t (heap r words.now colours.now bytes.now) }
+pub fn root_refusal(
+    r: Regs,
+    words: &[u32],
+    colours: &[u32],
+    bytes: &[u8],
+    t: u32,
+) -> Result<(), Refusal>
+    ensures { refused_by result ≡ root_refusal t (heap r words.now colours.now bytes.now) }
 {
-    let e = part_checks::entry(r, words, colours, bytes);
-    if e != 0 {
-        return e;
-    }
-    let p = part_checks::target_place(r.blocks, t);
-    if p != 0 {
-        return p;
-    }
+    part_checks::entry(r, words, colours, bytes)?;
+    part_checks::target_place(r.blocks, t)?;
     part_checks::target_refusal(r.blocks, r.phase, r.position, colours, t)
 }
 
@@ -32,25 +33,13 @@ pub fn store_refusal(
     b: u32,
     w: u32,
     t: u32,
-) -> u32
-    ensures { result ≡ store_refusal b w t (heap r words.now colours.now bytes.now) }
+) -> Result<(), Refusal>
+    ensures { refused_by result ≡ store_refusal b w t (heap r words.now colours.now bytes.now) }
 {
-    let e = part_checks::entry(r, words, colours, bytes);
-    if e != 0 {
-        return e;
-    }
-    let p = part_checks::word_refusal(r.blocks, b, w);
-    if p != 0 {
-        return p;
-    }
-    let q = part_checks::target_place(r.blocks, t);
-    if q != 0 {
-        return q;
-    }
-    let d = part_checks::holder_refusal(r.blocks, r.phase, r.position, colours, b);
-    if d != 0 {
-        return d;
-    }
+    part_checks::entry(r, words, colours, bytes)?;
+    part_checks::word_refusal(r.blocks, b, w)?;
+    part_checks::target_place(r.blocks, t)?;
+    part_checks::holder_refusal(r.blocks, r.phase, r.position, colours, b)?;
     part_checks::target_refusal(r.blocks, r.phase, r.position, colours, t)
 }
 
@@ -66,10 +55,9 @@ pub fn store_number(
 ) -> Outcome
     ensures { given result words.new colours.new bytes.new ≡ store_number b w v (heap r words.old colours.old bytes.old) }
 {
-    let e = part_checks::entry(r, &words[..], &colours[..], &bytes[..]);
-    let n = part_checks::read_refusal_after(e, r, &words[..], &colours[..], &bytes[..], b, w);
-    if n != 0 {
-        return part_checks::refused(r, n);
+    let checked = part_checks::read_refusal(r, &words[..], &colours[..], &bytes[..], b, w);
+    if let Err(refusal) = checked {
+        return part_checks::refused(r, refusal.into());
     }
     part_put::put_number(words, bytes, b, w, v);
     part_checks::done(r, 0)
@@ -87,9 +75,8 @@ pub fn store_reference(
 ) -> Outcome
     ensures { given result words.new colours.new bytes.new ≡ store_reference b w t (heap r words.old colours.old bytes.old) }
 {
-    let e = store_refusal(r, &words[..], &colours[..], &bytes[..], b, w, t);
-    if e != 0 {
-        return part_checks::refused(r, e);
+    if let Err(refusal) = store_refusal(r, &words[..], &colours[..], &bytes[..], b, w, t) {
+        return part_checks::refused(r, refusal.into());
     }
     let s = part_put::barrier(r, colours, t);
     part_put::put_reference(words, bytes, b, w, t);
@@ -106,9 +93,8 @@ pub fn set_root(
 ) -> Outcome
     ensures { given result words.new colours.new bytes.new ≡ set_root t (heap r words.old colours.old bytes.old) }
 {
-    let e = root_refusal(r, &words[..], &colours[..], &bytes[..], t);
-    if e != 0 {
-        return part_checks::refused(r, e);
+    if let Err(refusal) = root_refusal(r, &words[..], &colours[..], &bytes[..], t) {
+        return part_checks::refused(r, refusal.into());
     }
     let mut s = part_put::barrier(r, colours, t);
     s.root = t;

@@ -6,8 +6,8 @@
 --     taken_as, held_root, held_word    the taking and the storing
 --     after_refused, after_done         what follows the units
 --     list_zero, take_zero, holder_zero     what tests that refuse nothing establish
---     damaged_ends, undamaged           units that met damage, and units that met none
---     allocate_refused, allocate_off, allocate_goes     the call
+--     damaged_ends, ended_so            units that met damage, and units whose refusal number is known
+--     allocate_refused, allocate_goes     the call
 -- Assumes nothing.
 use Prim.Native.Nat.{ℕ, ◌+◌, ◌-◌, ◌*◌, ◌/◌, ◌%◌, min, max, ◌≤◌, ◌<◌}
 use mathlib.Core.Path.{◌≡◌, refl, sym, ◌∙◌, ap}
@@ -131,18 +131,14 @@ module _ (h : Heap) where
     after_done e z t a = simp (eq-eqb (take_refusal b h) 0 (sym e ∙ z)) (rw (← t) a)
 
   module _ (b w : ℕ) {g : Given} {n : ℕ} where
-    pub allocate_refused : n ≡ entry h → n ≢ 0 → g ≡ refuse n h → g ≡ allocate b w h
+    pub allocate_refused : n ≡ entry h ▷ holder_place h.regs.blocks b w → n ≢ 0 → g ≡ refuse n h → g ≡ allocate b w h
     unfolding allocate
-    allocate_refused e z a = unless_stops _ (stops (holder_place h.regs.blocks b w) e z) z a
+    allocate_refused e z a = unless_stops _ e z a
 
-    pub allocate_off : {x : ℕ} → x ≡ entry h → x ≡ 0 → n ≡ holder_place h.regs.blocks b w → n ≢ 0 → g ≡ refuse n h → g ≡ allocate b w h
-    unfolding allocate
-    allocate_off x z e m a = unless_stops _ (passes x z e) m a
-
-    pub allocate_goes : {x units : ℕ} {e : RunEnd} → x ≡ entry h → x ≡ 0 → n ≡ holder_place h.regs.blocks b w → n ≡ 0
+    pub allocate_goes : {units : ℕ} {e : RunEnd} → n ≡ entry h ▷ holder_place h.regs.blocks b w → n ≡ 0
         → units ≡ units_due h.regs → e ≡ run units 0 h → g ≡ allocated b w e → g ≡ allocate b w h
     unfolding allocate
-    allocate_goes x z e m u d a = unless_passes h (passes x z e) m (a ∙ ap (allocated b w) (d ∙ ap (λ (k : ℕ). run k 0 h) u))
+    allocate_goes x z u d a = unless_passes h x z (a ∙ ap (allocated b w) (d ∙ ap (λ (k : ℕ). run k 0 h) u))
 
 -- a holder that is no refusal 3 is the root or a word of a block
 pub holder_zero : {m n : ℕ} (b w : ℕ) → n ≡ m → holder_place m b w ≡ 0 → b ≢ 0 → Block n b × (w ≤ 7)
@@ -158,6 +154,6 @@ damaged_ends b w e n a =
     let s : e.refusal ≡ e.refusal ▷ take_refusal b e.heap = stops (take_refusal b e.heap) refl n in
     simp (← s, ne_eqb e.refusal 0 n) a
 
--- units that met no damage
-pub undamaged : (n i : ℕ) (h : Heap) {e : RunEnd} → stopped n i h ≡ e → n ≡ 0 → stopped 0 i h ≡ e
-undamaged n i h q z = rw z at q
+-- units whose refusal number is known
+pub ended_so : {n : ℕ} (k i : ℕ) (h : Heap) {e : RunEnd} → stopped n i h ≡ e → n ≡ k → stopped k i h ≡ e
+ended_so k i h q z = rw z at q

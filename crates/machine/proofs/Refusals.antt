@@ -1,6 +1,7 @@
 -- Laws of the refusals: one for each way through the tests, and what a refusal number 0 establishes.
 --     stops, passes            the two ways through a ▷ b
 --     refuses, refused_so, unrefused     a refusal's number isn't 0; what a test that refused, and one that didn't, says of its number
+--     told_refuses, told_so    the same of a number that is a refusal's
 --     stops_by, passes_by      the two ways through a ▷ b, by what the test a answered
 --     fits_most                where test 1 passes, M is at most 16,384
 --     unfit, illegal, entered  the three ways of entry
@@ -67,9 +68,16 @@ refuses refusal.TooManyUnits z = absurd (omega arith)
 refuses refusal.BadHeap z = absurd (omega arith)
 refuses refusal.BadLength z = absurd (omega arith)
 
+pub told_refuses : {n : ℕ} (e : Refusal) → n ≡ number e → n ≢ 0
+told_refuses e k z = refuses e (sym k ∙ z)
+
 module _ {A : Type 0} {t : Result A Refusal} {a : ℕ} (p : refused_by t ≡ a) where
   pub refused_so : {e : Refusal} → t ≡ Err e → number e ≡ a
   refused_so q = sym (ap refused_by q) ∙ p
+
+  -- n is the refusal's number
+  pub told_so : {n : ℕ} {e : Refusal} → n ≡ number e → t ≡ Err e → n ≡ a
+  told_so k q = k ∙ refused_so q
 
   pub unrefused : {x : A} → t ≡ Ok x → a ≡ 0
   unrefused q = sym p ∙ ap refused_by q

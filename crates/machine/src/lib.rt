@@ -3,7 +3,6 @@
 #![tactic(auto)]
 
 ghost use Rattle.std.specs.Prelude.{◌≡◌};
-ghost use Rattle.machine.specs.declared.Refusal.TheVariants.{Damage};
 ghost use Rattle.machine.specs.Registers.{with_grey};
 ghost use Rattle.machine.specs.Refusal.{number};
 
@@ -231,14 +230,6 @@ pub enum Seen {
 // A unit met damage, and did nothing. Where it is none, a unit answers the registers after it.
 #[derive(Clone, Copy, PartialEq, Eq)]
 pub struct Damaged;
-
-impl From<Damaged> for Refusal {
-    ghost from_gives = { λ d r. r ≡ Damage };
-
-    fn from(_: Damaged) -> Refusal {
-        Refusal::Damage
-    }
-}
 
 // What units in a row answer: the registers after them, the units finished, and whether damage ended them.
 #[derive(Clone, Copy)]

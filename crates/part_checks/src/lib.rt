@@ -244,6 +244,21 @@ pub fn read_refusal_after(
     holder_refusal(r.blocks, r.phase, r.position, colours, b)
 }
 
+// Every refusal of Read: 1, 2, 3, then 8 and 5.
+pub fn read_refusal(
+    r: Regs,
+    words: &[u32],
+    colours: &[u32],
+    bytes: &[u8],
+    b: u32,
+    w: u32,
+) -> Result<(), Refusal>
+    ensures { refused_by result ≡ read_refusal b w (heap r words.now colours.now bytes.now) }
+{
+    let e = entry(r, words, colours, bytes);
+    read_refusal_after(e, r, words, colours, bytes, b, w)
+}
+
 // What a call gives back: the registers afterwards, the refusal or 0, the value and the units done.
 pub fn answered(r: Regs, refusal: u32, value: u32, units: u32) -> Outcome
     ensures { (ws cs bs : List ℕ) → given result ws cs bs ≡ answering refusal value units (heap r ws cs bs) }

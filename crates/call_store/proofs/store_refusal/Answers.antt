@@ -1,46 +1,57 @@
 -- `call_store::store_refusal` meets its contract: the first test that refuses. Assumes nothing.
 use mathlib.Core.Path.{refl}
-use Rattle.machine.proofs.Tests.{so}
+use Rattle.machine.proofs.Tests.{handed_on}
 use Rattle.machine.proofs.Entering.{entry_ready, none_or_block}
-use Rattle.machine.proofs.Refusals.{stops, passes, word_zero, target_zero}
+use Rattle.machine.proofs.Refusals.{unrefused, stops_by, passes_by, word_zero, target_zero}
 use Rattle.machine.specs.Store.{store_refusal}
 use Rattle.call_store.proofs.store_refusal.Goals as goal
 
-pub returns-then-e-ne0 : goal.returns-then-e-ne0
+pub returns-in_err-entry : goal.returns-in_err-entry
 unfolding store_refusal
-returns-then-e-ne0 c = stops _ c.entry-e.ensures c.if-e-ne0.true
+returns-in_err-entry c = rw (handed_on c.from_residual.ensures) (stops_by c.entry.ensures _ c.in_err-entry.was)
 
-pub word_refusal-p-requires : goal.word_refusal-p-requires
-word_refusal-p-requires c = (entry_ready _ (so c.entry-e.ensures c.if-e-ne0.false)).most
+pub word_refusal-requires : goal.word_refusal-requires
+word_refusal-requires c = (entry_ready _ (unrefused c.entry.ensures c.in_ok-entry.was)).most
 
-pub returns-then-p-ne0 : goal.returns-then-p-ne0
+pub returns-in_err-word_refusal : goal.returns-in_err-word_refusal
 unfolding store_refusal
-returns-then-p-ne0 c = passes c.entry-e.ensures c.if-e-ne0.false (stops _ c.word_refusal-p.ensures c.if-p-ne0.true)
+returns-in_err-word_refusal c =
+    rw (handed_on c.from_residual-in_err-word_refusal.ensures)
+    (passes_by c.entry.ensures c.in_ok-entry.was (stops_by c.word_refusal.ensures _ c.in_err-word_refusal.was))
 
-pub target_place-q-requires : goal.target_place-q-requires
-target_place-q-requires c = (entry_ready _ (so c.entry-e.ensures c.if-e-ne0.false)).most
+pub target_place-requires : goal.target_place-requires
+target_place-requires c = (entry_ready _ (unrefused c.entry.ensures c.in_ok-entry.was)).most
 
-pub returns-then-q-ne0 : goal.returns-then-q-ne0
+pub returns-in_err-target_place : goal.returns-in_err-target_place
 unfolding store_refusal
-returns-then-q-ne0 c =
-    passes c.entry-e.ensures c.if-e-ne0.false (passes c.word_refusal-p.ensures c.if-p-ne0.false (stops _ c.target_place-q.ensures c.if-q-ne0.true))
+returns-in_err-target_place c =
+    rw (handed_on c.from_residual-in_err-target_place.ensures)
+    (passes_by c.entry.ensures c.in_ok-entry.was
+    (passes_by c.word_refusal.ensures c.in_ok-word_refusal.was (stops_by c.target_place.ensures _ c.in_err-target_place.was)))
 
-pub holder_refusal-d-requires : goal.holder_refusal-d-requires
-holder_refusal-d-requires c =
-    let d = entry_ready _ (so c.entry-e.ensures c.if-e-ne0.false) in
-    (d.most, d.colours, (word_zero _ _ _ (so c.word_refusal-p.ensures c.if-p-ne0.false)).0)
+pub holder_refusal-requires : goal.holder_refusal-requires
+holder_refusal-requires c =
+    let d = entry_ready _ (unrefused c.entry.ensures c.in_ok-entry.was) in
+    (d.most, d.colours, (word_zero _ _ _ (unrefused c.word_refusal.ensures c.in_ok-word_refusal.was)).0)
 
-pub returns-then-d-ne0 : goal.returns-then-d-ne0
+pub returns-in_err-holder_refusal : goal.returns-in_err-holder_refusal
 unfolding store_refusal
-returns-then-d-ne0 c =
-    passes c.entry-e.ensures c.if-e-ne0.false (passes c.word_refusal-p.ensures c.if-p-ne0.false (passes c.target_place-q.ensures c.if-q-ne0.false (stops _ (c.holder_refusal-d.ensures _ _ _ refl refl refl) c.if-d-ne0.true)))
+returns-in_err-holder_refusal c =
+    rw (handed_on c.from_residual-in_err-holder_refusal.ensures)
+    (passes_by c.entry.ensures c.in_ok-entry.was
+    (passes_by c.word_refusal.ensures c.in_ok-word_refusal.was
+    (passes_by c.target_place.ensures c.in_ok-target_place.was
+    (stops_by (c.holder_refusal.ensures _ _ _ refl refl refl) _ c.in_err-holder_refusal.was))))
 
 pub target_refusal-requires : goal.target_refusal-requires
 target_refusal-requires c =
-    let d = entry_ready _ (so c.entry-e.ensures c.if-e-ne0.false) in
-    (d.most, d.colours, none_or_block _ _ (target_zero _ _ (so c.target_place-q.ensures c.if-q-ne0.false)))
+    let d = entry_ready _ (unrefused c.entry.ensures c.in_ok-entry.was) in
+    (d.most, d.colours, none_or_block _ _ (target_zero _ _ (unrefused c.target_place.ensures c.in_ok-target_place.was)))
 
 pub returns : goal.returns
 unfolding store_refusal
 returns c =
-    passes c.entry-e.ensures c.if-e-ne0.false (passes c.word_refusal-p.ensures c.if-p-ne0.false (passes c.target_place-q.ensures c.if-q-ne0.false (passes (c.holder_refusal-d.ensures _ _ _ refl refl refl) c.if-d-ne0.false (c.target_refusal.ensures _ _ _ refl refl refl))))
+    passes_by c.entry.ensures c.in_ok-entry.was
+    (passes_by c.word_refusal.ensures c.in_ok-word_refusal.was
+    (passes_by c.target_place.ensures c.in_ok-target_place.was
+    (passes_by (c.holder_refusal.ensures _ _ _ refl refl refl) c.in_ok-holder_refusal.was (c.target_refusal.ensures _ _ _ refl refl refl))))
