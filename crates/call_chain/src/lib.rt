@@ -7,37 +7,51 @@ ghost use Rattle.machine.specs.Tests.{◌▷◌};
 ghost use Rattle.machine.specs.WellFormed.{Block};
 ghost use Rattle.machine.specs.Heap.{heap};
 ghost use Rattle.machine.specs.Ready.{Ready};
-ghost use Rattle.machine.specs.Entry.{holder_place};
+ghost use Rattle.machine.specs.Refusal.{refused_by};
+ghost use Rattle.machine.specs.Entry.{entry, holder_place};
 ghost use Rattle.machine.specs.Answers.{given};
 ghost use Rattle.machine.specs.Units.{stopped};
 ghost use Rattle.machine.specs.Several.{several_taken};
 ghost use Rattle.machine.specs.Chain.{chain, chain_length, allocate_chain};
 
-use machine::{Outcome, Regs};
+use machine::{Outcome, Refusal, Regs};
 
 // Refusal 3 for a chain that isn't 1 to 256 blocks long.
-pub fn chain_length(n: u32) -> u32
-    ensures { result ≡ chain_length n }
+pub fn chain_length(n: u32) -> Result<(), Refusal>
+    ensures { refused_by result ≡ chain_length n }
 {
     if n < 1 {
-        return machine::NO_PLACE;
+        return Err(Refusal::NoPlace);
     }
     if n > machine::MOST_CHAIN {
-        return machine::NO_PLACE;
+        return Err(Refusal::NoPlace);
     }
-    0
+    Ok(())
 }
 
 // Refusal 3 for the holder, then for the length.
-pub fn chain_place(m: u32, b: u32, w: u32, n: u32) -> u32
+pub fn chain_place(m: u32, b: u32, w: u32, n: u32) -> Result<(), Refusal>
     requires { m ≤ 16384 }
-    ensures { result ≡ holder_place m b w ▷ chain_length n }
+    ensures { refused_by result ≡ holder_place m b w ▷ chain_length n }
 {
-    let p = part_checks::holder_place(m, b, w);
-    if p != 0 {
-        return p;
-    }
+    part_checks::holder_place(m, b, w)?;
     chain_length(n)
+}
+
+// Refusals 1, 2 and 3, which stand before the units.
+fn start_refusal(
+    r: Regs,
+    words: &[u32],
+    colours: &[u32],
+    bytes: &[u8],
+    b: u32,
+    w: u32,
+    n: u32,
+) -> Result<(), Refusal>
+    ensures { refused_by result ≡ entry (heap r words.now colours.now bytes.now) ▷ (holder_place r.blocks b w ▷ chain_length n) }
+{
+    part_checks::entry(r, words, colours, bytes)?;
+    chain_place(r.blocks, b, w, n)
 }
 
 // What the call does once its units are done.
@@ -54,9 +68,9 @@ pub fn chain_after(
     requires { Ready (heap r words.old colours.old bytes.old) × (b ≢ 0 → Block r.blocks b × (w ≤ 7)) × (1 ≤ n) }
     ensures { given result words.new colours.new bytes.new ≡ several_taken chain n b w (stopped 0 units (heap r words.old colours.old bytes.old)) }
 {
-    let e = part_several::take_several_refusal(r, &words[..], &colours[..], n, b);
-    if e != 0 {
-        return part_checks::answered(r, e, 0, units);
+    let tested = part_several::take_several_refusal(r, &words[..], &colours[..], n, b);
+    if let Err(refusal) = tested {
+        return part_checks::answered(r, refusal.into(), 0, units);
     }
     let s = part_chain::serve_chain(r, words, colours, bytes, b, w, n);
     part_checks::answered(s, 0, r.free, units)
@@ -74,18 +88,12 @@ pub fn allocate_chain(
 ) -> Outcome
     ensures { given result words.new colours.new bytes.new ≡ allocate_chain b w n (heap r words.old colours.old bytes.old) }
 {
-    let e = part_checks::entry(r, &words[..], &colours[..], &bytes[..]);
-    if e != 0 {
-        return part_checks::refused(r, e);
-    }
-    let p = chain_place(r.blocks, b, w, n);
-    if p != 0 {
-        return part_checks::refused(r, p);
+    if let Err(refusal) = start_refusal(r, &words[..], &colours[..], &bytes[..], b, w, n) {
+        return part_checks::refused(r, refusal.into());
     }
     let ran = part_units::run(r, words, colours, bytes, n * part_units::units_due(r));
-    let s = ran.regs;
-    if ran.refusal != 0 {
-        return part_checks::answered(s, ran.refusal, 0, ran.units);
-    }
-    chain_after(s, words, colours, bytes, ran.units, b, w, n)
+    let Ok(()) = ran.end else {
+        return part_checks::answered(ran.regs, Refusal::Damage.into(), 0, ran.units);
+    };
+    chain_after(ran.regs, words, colours, bytes, ran.units, b, w, n)
 }

@@ -25,18 +25,15 @@ fn number(s: State) -> u32
 pub fn state(r: Regs, words: &[u32], colours: &[u32], bytes: &[u8], b: u32) -> Answer
     ensures { (record { answer = result; heap = heap r words.now colours.now bytes.now }) ≡ tell_state b (heap r words.now colours.now bytes.now) }
 {
-    let e = part_checks::entry(r, words, colours, bytes);
-    if e != 0 {
+    if let Err(refusal) = part_checks::entry(r, words, colours, bytes) {
         return Answer {
-            refusal: e,
-            value: 0,
-            units: 0,
+            refusal: refusal.into(),
+            ..Answer::default()
         };
     }
     let s = part_state::state_of(r.blocks, r.phase, r.position, colours, b);
     Answer {
-        refusal: 0,
         value: number(s),
-        units: 0,
+        ..Answer::default()
     }
 }

@@ -4,7 +4,7 @@
 --     length_fits, length_none, length_high     the test of the length
 --     place-stops, place-passes     refusal 3 for the holder, then for the length;     place-zero: what it establishes
 --     chain-units              the units due fit
---     chain_refused, chain_off, chain_goes     the call
+--     chain_refused, chain_goes     the call
 -- Assumes nothing.
 use Prim.Native.Nat.{ℕ, ◌+◌, ◌-◌, ◌*◌, ◌/◌, max, ◌≤◌, ◌<◌}
 use mathlib.Core.Path.{◌≡◌, refl, sym, ◌∙◌, ap}
@@ -29,7 +29,6 @@ use Rattle.machine.specs.Chain.{link, chain, chain_length, allocate_chain}
 use Rattle.machine.proofs.Tests.{both_true, if_ind}
 use Rattle.machine.proofs.Rounding.{round_most}
 use Rattle.machine.proofs.Entering.{first_zero, choose_zero}
-use Rattle.machine.proofs.Refusals.{stops, passes}
 use Rattle.machine.proofs.Storing.{unless_stops, unless_passes}
 use Rattle.machine.proofs.Walking.{at_frees}
 use Rattle.machine.proofs.Serving.{Hanging, Waiting, block_of}
@@ -86,15 +85,11 @@ due_most r m p =
     (λ e. p)
 
 module _ (h : Heap) (b w n : ℕ) {g : Given} {e : ℕ} where
-  pub chain_refused : e ≡ entry h → e ≢ 0 → g ≡ refuse e h → g ≡ allocate_chain b w n h
+  pub chain_refused : e ≡ entry h ▷ (holder_place h.regs.blocks b w ▷ chain_length n) → e ≢ 0 → g ≡ refuse e h → g ≡ allocate_chain b w n h
   unfolding allocate_chain
-  chain_refused q z a = unless_stops _ (stops (holder_place h.regs.blocks b w ▷ chain_length n) q z) z a
+  chain_refused q z a = unless_stops _ q z a
 
-  pub chain_off : {x : ℕ} → x ≡ entry h → x ≡ 0 → e ≡ holder_place h.regs.blocks b w ▷ chain_length n → e ≢ 0 → g ≡ refuse e h → g ≡ allocate_chain b w n h
-  unfolding allocate_chain
-  chain_off x z q m a = unless_stops _ (passes x z q) m a
-
-  pub chain_goes : {x units : ℕ} {u : RunEnd} → x ≡ entry h → x ≡ 0 → e ≡ holder_place h.regs.blocks b w ▷ chain_length n → e ≡ 0
+  pub chain_goes : {units : ℕ} {u : RunEnd} → e ≡ entry h ▷ (holder_place h.regs.blocks b w ▷ chain_length n) → e ≡ 0
       → units ≡ units_due h.regs → u ≡ run (n * units) 0 h → g ≡ several_taken chain n b w u → g ≡ allocate_chain b w n h
   unfolding allocate_chain
-  chain_goes x z q m k d a = unless_passes h (passes x z q) m (a ∙ ap (several_taken chain n b w) (d ∙ ap (λ (y : ℕ). run (n * y) 0 h) k))
+  chain_goes q z k d a = unless_passes h q z (a ∙ ap (several_taken chain n b w) (d ∙ ap (λ (y : ℕ). run (n * y) 0 h) k))

@@ -1,9 +1,10 @@
 -- `call_chain::chain_place` meets its contract. Assumes nothing.
-use Rattle.machine.proofs.Refusals.{stops, passes}
+use Rattle.machine.proofs.Tests.{handed_on}
+use Rattle.machine.proofs.Refusals.{stops_by, passes_by}
 use Rattle.call_chain.proofs.chain_place.Goals as goal
 
-pub returns-then-p-ne0 : goal.returns-then-p-ne0
-returns-then-p-ne0 c = stops _ c.holder_place-p.ensures c.if-p-ne0.true
+pub returns-in_err-holder_place : goal.returns-in_err-holder_place
+returns-in_err-holder_place c = rw (handed_on c.from_residual.ensures) (stops_by c.holder_place.ensures _ c.in_err-holder_place.was)
 
 pub returns : goal.returns
-returns c = passes c.holder_place-p.ensures c.if-p-ne0.false c.chain_length.ensures
+returns c = passes_by c.holder_place.ensures c.in_ok-holder_place.was c.chain_length.ensures
