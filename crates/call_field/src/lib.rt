@@ -2,37 +2,48 @@
 // Field k is word k mod 7 of the block that k / 7 links lead to.
 #![tactic(auto)]
 
-ghost use Rattle.std.specs.Prelude.{◌≡◌};
+ghost use Rattle.std.specs.Prelude.{◌≡◌, ◌/◌};
 ghost use Rattle.machine.specs.Heap.{heap};
 ghost use Rattle.machine.specs.Answers.{given};
-ghost use Rattle.machine.specs.Tests.{◌▷◌};
-ghost use Rattle.machine.specs.Entry.{entry};
-ghost use Rattle.machine.specs.Read.{read_refused};
-ghost use Rattle.machine.specs.Field.{field_place, read_field, store_field_number, store_field_reference};
+ghost use Rattle.machine.specs.Field.{field_refusal, field_store_refusal, field_block, read_field, store_field_number, store_field_reference};
+ghost use Rattle.part_field.specs.Finds.{Finds};
 
-use machine::{Outcome, ReadAnswer, Regs};
+use machine::{Outcome, ReadAnswer, Refusal, Regs};
 
-// Refusals 1, 2 and 3 of a call on field k of the object that starts at the block b.
-fn start_refusal(r: Regs, words: &[u32], colours: &[u32], bytes: &[u8], b: u32, k: u32) -> u32
-    ensures { result ≡ entry (heap r words.now colours.now bytes.now) ▷ field_place r.blocks b k }
+// The block that has field k of the object that starts at the block b, or the first refusal of a call on it.
+fn find_field(
+    r: Regs,
+    words: &[u32],
+    colours: &[u32],
+    bytes: &[u8],
+    b: u32,
+    k: u32,
+) -> Result<u32, Refusal>
+    ensures { Finds result (field_refusal b k (heap r words.now colours.now bytes.now)) (field_block (k / 7) b (heap r words.now colours.now bytes.now)) }
 {
-    let e = part_checks::entry(r, words, colours, bytes);
-    if e != 0 {
-        return e;
-    }
-    part_field::field_place(r.blocks, b, k)
+    part_checks::entry(r, words, colours, bytes)?;
+    part_field::field_place(r.blocks, b, k)?;
+    part_field::find(r, words, colours, bytes, b, k / machine::FIELDS)
 }
 
-// Read field refused by n.
-fn unread(n: u32) -> ReadAnswer
-    ensures { result ≡ read_refused n }
+// The same for a store of a reference to t. Refusal 4 comes before the walk, and 8 and 6 for t after it.
+fn find_to_store(
+    r: Regs,
+    words: &[u32],
+    colours: &[u32],
+    bytes: &[u8],
+    b: u32,
+    k: u32,
+    t: u32,
+) -> Result<u32, Refusal>
+    ensures { Finds result (field_store_refusal b k t (heap r words.now colours.now bytes.now)) (field_block (k / 7) b (heap r words.now colours.now bytes.now)) }
 {
-    ReadAnswer {
-        refusal: n,
-        value: 0,
-        units: 0,
-        reference: 0,
-    }
+    part_checks::entry(r, words, colours, bytes)?;
+    part_field::field_place(r.blocks, b, k)?;
+    part_checks::target_place(r.blocks, t)?;
+    let x = part_field::find(r, words, colours, bytes, b, k / machine::FIELDS)?;
+    part_checks::target_refusal(r.blocks, r.phase, r.position, colours, t)?;
+    Ok(x)
 }
 
 // Read field: field k of the object that starts at the block b, and whether it is a reference.
@@ -47,16 +58,10 @@ pub fn read_field(
     ensures { (record { answer = result; heap = heap r words.now colours.now bytes.now })
         ≡ read_field b k (heap r words.now colours.now bytes.now) }
 {
-    let e = start_refusal(r, words, colours, bytes, b, k);
-    if e != 0 {
-        return unread(e);
+    match find_field(r, words, colours, bytes, b, k) {
+        Ok(x) => part_cells::read_word(words, bytes, x, k % machine::FIELDS),
+        Err(refusal) => part_checks::unread(refusal.into()),
     }
-    let x = part_field::walk(r, words, colours, bytes, b, k / machine::FIELDS);
-    let d = part_field::walk_refusal(r, words, colours, bytes, x);
-    if d != 0 {
-        return unread(d);
-    }
-    part_cells::read_word(words, bytes, x.block, k % machine::FIELDS)
 }
 
 // Store field number: field k of the object that starts at the block b becomes the number v.
@@ -71,24 +76,13 @@ pub fn store_field_number(
 ) -> Outcome
     ensures { given result words.new colours.new bytes.new ≡ store_field_number b k v (heap r words.old colours.old bytes.old) }
 {
-    let e = start_refusal(r, &words[..], &colours[..], &bytes[..], b, k);
-    if e != 0 {
-        return part_checks::refused(r, e);
+    match find_field(r, &words[..], &colours[..], &bytes[..], b, k) {
+        Ok(x) => {
+            part_put::put_number(words, bytes, x, k % machine::FIELDS, v);
+            part_checks::done(r, 0)
+        }
+        Err(refusal) => part_checks::refused(r, refusal.into()),
     }
-    let x = part_field::walk(
-        r,
-        &words[..],
-        &colours[..],
-        &bytes[..],
-        b,
-        k / machine::FIELDS,
-    );
-    let d = part_field::walk_refusal(r, &words[..], &colours[..], &bytes[..], x);
-    if d != 0 {
-        return part_checks::refused(r, d);
-    }
-    part_put::put_number(words, bytes, x.block, k % machine::FIELDS, v);
-    part_checks::done(r, 0)
 }
 
 // Store field reference: field k of the object that starts at the block b becomes a reference to t, or the reference 0.
@@ -103,31 +97,12 @@ pub fn store_field_reference(
 ) -> Outcome
     ensures { given result words.new colours.new bytes.new ≡ store_field_reference b k t (heap r words.old colours.old bytes.old) }
 {
-    let e = start_refusal(r, &words[..], &colours[..], &bytes[..], b, k);
-    if e != 0 {
-        return part_checks::refused(r, e);
+    match find_to_store(r, &words[..], &colours[..], &bytes[..], b, k, t) {
+        Ok(x) => {
+            let s = part_put::barrier(r, colours, t);
+            part_put::put_reference(words, bytes, x, k % machine::FIELDS, t);
+            part_checks::done(s, 0)
+        }
+        Err(refusal) => part_checks::refused(r, refusal.into()),
     }
-    let p = part_checks::target_place(r.blocks, t);
-    if p != 0 {
-        return part_checks::refused(r, p);
-    }
-    let x = part_field::walk(
-        r,
-        &words[..],
-        &colours[..],
-        &bytes[..],
-        b,
-        k / machine::FIELDS,
-    );
-    let d = part_field::walk_refusal(r, &words[..], &colours[..], &bytes[..], x);
-    if d != 0 {
-        return part_checks::refused(r, d);
-    }
-    let q = part_checks::target_refusal(r.blocks, r.phase, r.position, &colours[..], t);
-    if q != 0 {
-        return part_checks::refused(r, q);
-    }
-    let s = part_put::barrier(r, colours, t);
-    part_put::put_reference(words, bytes, x.block, k % machine::FIELDS, t);
-    part_checks::done(s, 0)
 }

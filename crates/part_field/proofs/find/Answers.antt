@@ -2,14 +2,12 @@
 use mathlib.Core.Path.{refl, sym, ◌∙◌, ap}
 use Rattle.machine.proofs.Tests.{handed_on}
 use Rattle.machine.proofs.Refusals.{refused_so, unrefused}
-use Rattle.machine.proofs.Steps.{never}
-use Rattle.part_field.proofs.Walking.{walked_block}
+use Rattle.part_field.proofs.Walking.{walked_block, not_found}
 use Rattle.part_field.proofs.find.Goals as goal
 
 pub returns-in_err-walk_refusal : goal.returns-in_err-walk_refusal
 returns-in_err-walk_refusal c =
-    rw (handed_on c.from_residual.ensures)
-    (record { refused = refused_so (c.walk_refusal.ensures _ _ c.walk-x.ensures) c.in_err-walk_refusal.was; found = λ y e. never (cc) })
+    rw (handed_on c.from_residual.ensures) (not_found (refused_so (c.walk_refusal.ensures _ _ c.walk-x.ensures) c.in_err-walk_refusal.was))
 
 pub returns : goal.returns
 returns c =

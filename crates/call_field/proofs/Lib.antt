@@ -1,2 +1,0 @@
--- Laws that the calls share.
-pub mod Starting
