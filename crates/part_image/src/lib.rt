@@ -84,6 +84,7 @@ impl Item for u8 {
 
     ghost sized = { λ xs. Prim.search rules };
 
+    #[tactic(auto, unfolding(crate::specs::Placing::placed))]
     fn put(xs: &[u8], out: &mut [u8]) {
         out[..xs.len()].copy_from_slice(xs);
     }

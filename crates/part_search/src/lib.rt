@@ -11,11 +11,7 @@ ghost use Rattle.part_search.specs.Lying.{so_far, Lies, Gives, named_by};
 pub fn clear(numbers: &mut [u32])
     ensures { numbers.new ≡ replicate (length numbers.old) 0 }
 {
-    let mut i = 0;
-    while i < numbers.len() {
-        numbers[i] = 0;
-        i += 1;
-    }
+    numbers.fill(0);
 }
 
 // Word w of the block b names x, which is any number: a block that wasn't found yet is found. Answers the number found afterwards.
