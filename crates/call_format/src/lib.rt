@@ -14,18 +14,13 @@ fn link_all(words: &mut [u32], m: u32)
     requires { (1 ≤ m) × (m ≤ 16384) × (length words.old ≡ 8 * m) }
     ensures { words.new ≡ free_list m 2 }
 {
-    let mut b = machine::FIRST;
-    let mut left = m;
-    while left > 1 {
-        left -= 1;
+    let last = m + 1;
+    for b in machine::FIRST..last {
         let at = 8 * (b as usize - 2);
-        let end = at + 8;
-        part_cells::clear(&mut words[at..end], b + 1);
-        b += 1;
+        part_cells::clear(&mut words[at..at + 8], b + 1);
     }
-    let from = 8 * (b as usize - 2);
-    let to = from + 8;
-    part_cells::clear(&mut words[from..to], 0);
+    let at = 8 * (last as usize - 2);
+    part_cells::clear(&mut words[at..at + 8], 0);
 }
 
 // The registers of a fresh heap of m blocks with pace u.

@@ -17,9 +17,9 @@ fn read(words: &mut [u32], colours: &mut [u32], bytes: &mut [u8], sections: &[u8
     ensures { (words.new ≡ words_in sections.now) × (colours.new ≡ colours_in sections.now) × (bytes.new ≡ bytes_in sections.now) }
 {
     let n = m as usize;
-    part_image::get_fours(sections, 4, colours);
-    part_image::get_bytes(sections, part_image::frame::bytes_at(n) + 4, bytes);
-    part_image::get_fours(sections, part_image::frame::words_at(n) + 4, words);
+    part_image::get_items(sections, 4, colours);
+    part_image::get_items(sections, part_image::frame::bytes_at(n) + 4, bytes);
+    part_image::get_items(sections, part_image::frame::words_at(n) + 4, words);
 }
 
 // Load: refused by 10 where the image isn't that of a heap that the audit accepts, with nothing after it, by 13 where a buffer hasn't the

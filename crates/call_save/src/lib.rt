@@ -30,7 +30,7 @@ fn put_registers(r: Regs, out: &mut [u8])
     let registers = [
         r.blocks, r.pace, r.phase, r.grey, r.free, r.count, r.position, r.root, r.cycle, r.mark,
     ];
-    part_image::put_numbers(out, 0, &registers);
+    part_image::put_section(out, 0, &registers);
 }
 
 // The image, section by section.
@@ -43,9 +43,9 @@ fn write(r: Regs, words: &[u32], colours: &[u32], bytes: &[u8], out: &mut [u8])
     let m = r.blocks as usize;
     put_registers(r, out);
     let at = part_image::frame::BLOCKS_AT;
-    part_image::put_numbers(out, at, colours);
-    part_image::put_singles(out, at + part_image::frame::bytes_at(m), bytes);
-    part_image::put_numbers(out, at + part_image::frame::words_at(m), words);
+    part_image::put_section(out, at, colours);
+    part_image::put_section(out, at + part_image::frame::bytes_at(m), bytes);
+    part_image::put_section(out, at + part_image::frame::words_at(m), words);
 }
 
 // Save: refused by 1 where M, the pace or a length doesn't fit, by 10 where the audit turns the heap down, by 13 where the output is

@@ -1,4 +1,5 @@
 -- Laws of a heap's size.
+--     ceiled               the library's division, rounded up, is the definition's
 --     few_in_a_cycle, few_in_a_short_cycle     N is at most 2M + 2, and N' at most K + P + 2
 --     given_as             the number that a function gives for a pace other than 0
 --     no_pace, paced       a test that asks for a pace, with pace 0 and with another
@@ -10,22 +11,33 @@
 --     found, none_found    what is known where a number is enough, and where none is
 --     five_least           with pace 5, for 100 reachable blocks and single allocations, 236 blocks are the fewest
 -- Assumes nothing.
-use Prim.Native.Nat.{ℕ, ◌+◌, ◌-◌, ◌*◌, ◌≤◌, ◌<◌}
+use Prim.Native.Nat.{ℕ, ◌+◌, ◌-◌, ◌*◌, ◌/◌, ◌%◌, ◌≤◌, ◌<◌, min}
 use mathlib.Core.Path.{◌≡◌, refl, sym, subst}
 use mathlib.Core.Logic.{◌≢◌}
-use mathlib.Core.Bool.{Bool, true, false, ◌&&◌}
+use mathlib.Core.Bool.{Bool, true, false, not, ◌&&◌}
 use native.Mathlib.Omega.{arith}
-use native.Mathlib.Nat.{le-div_iff_mul-le, div-mul-le_self}
+use native.Mathlib.Nat.{le-div_iff_mul-le, div-lt_iff_lt-mul, div-mul-le_self}
 use lib.Dec.{eqb, leb}
-use borrow.Author.Tests.{le-leb, lt-leb, ne_eqb, leb-true}
+use borrow.Author.Tests.{le-leb, ne_eqb, leb-true}
 use Rattle.std.specs.Prelude.{if◌then◌else◌}
 use Rattle.machine.proofs.Tests.{both, both_true, by_eq, by_test}
+use Rattle.std.proofs.lemmas.Grind.{div_ceil_times}
+use Rattle.machine.specs.Rounding.{rounded_up}
 use Rattle.machine.proofs.Rounding.{round_most}
 use Rattle.theory_promises.specs.Demand3.{cycles}
 use Rattle.theory_promises.specs.Sharper.{short_cycles}
 use Rattle.theory_promises.proofs.Rooming.{cycles_enough}
 use Rattle.theory_promises.proofs.Sharper.{short_enough}
 use Rattle.call_size.specs.Sizing.{enough, suffices, Least}
+
+-- the library's division, rounded up
+pub ceiled : (a d : ℕ) → 0 < d → a / d + min 1 (a % d) ≡ rounded_up a d
+ceiled a d l =
+    let n = a / d + min 1 (a % d) in
+    let t = div_ceil_times a d l in
+    let low : n ≤ rounded_up a d = (le-div_iff_mul-le l).1 (omega (arith, t.1)) in
+    let high : rounded_up a d < n + 1 = (div-lt_iff_lt-mul l).1 (omega (arith, t.0)) in
+    omega arith
 
 pub few_in_a_cycle : (m u : ℕ) → u ≢ 0 → cycles m u ≤ 2 * m + 2
 unfolding cycles
@@ -38,8 +50,8 @@ few_in_a_short_cycle k p u n = round_most (k + p + 2) u (omega (arith, n))
 pub given_as : (u n x : ℕ) → u ≢ 0 → n ≡ (if eqb u 0 then 0 else x) → n ≡ x
 given_as u n x p e = rw e (simp (ne_eqb u 0 p))
 
-pub no_pace : (u : ℕ) (t : Bool) → u ≡ 0 → false ≡ (leb 1 u && t)
-no_pace u t e = simp (lt-leb 1 u (omega (arith, e)))
+pub no_pace : (u : ℕ) (t : Bool) → u ≡ 0 → not (eqb u 0) ≡ (leb 1 u && t)
+no_pace u t e = rw e refl
 
 pub paced : (u : ℕ) (t : Bool) → u ≢ 0 → t ≡ (leb 1 u && t)
 paced u t n = simp (le-leb 1 u (omega (arith, n)))

@@ -3,7 +3,7 @@
 --     kept, reached        the two ways of a block that is allocated and not doomed
 --     long, part_length, cleared     the lent buffers: their lengths, their first M numbers, and cleared
 --     numbers_as           the call with its answer in numbers
---     told_live, told_gone the reason by the block's state: allocated and not doomed, or not
+--     told_gone            the reason of a free or a doomed block, by its state
 -- Assumes nothing.
 use Prim.Native.Nat.{ℕ, ◌*◌, ◌-◌, ◌≤◌}
 use mathlib.Core.Path.{◌≡◌, refl, sym, ◌∙◌}
@@ -20,7 +20,8 @@ use Rattle.machine.specs.declared.Colour.{Colour}
 use Rattle.machine.specs.declared.State.{State}
 use Rattle.machine.specs.declared.Reason.{Reason}
 use Rattle.machine.specs.declared.Reason.TheVariants.{Reachable, Kept}
-use Rattle.machine.specs.declared.WhyAnswer.{WhyAnswer}
+use Rattle.machine.specs.declared.Why.{Why}
+use Rattle.std.specs.Prelude.{Result}
 use Rattle.machine.specs.declared.WhyNumbers.{WhyNumbers}
 use Rattle.machine.specs.WellFormed.{Block}
 use Rattle.machine.specs.Heap.{Heap, heap}
@@ -71,10 +72,6 @@ module _ (m root : ℕ) (ws bs : List ℕ) {came : List ℕ} (came_is : came ≡
 
 -- the block's state is s
 module _ (h : Heap) (b : ℕ) (s : State) (e : state_of h b ≡ s) where
-  pub told_live : (c : Colour) {x : Reason} {P : Type 0} → is_live s ≡ true → live_reason h b c ≡ reason_from h b s
-      → (is_live (state_of h b) ≡ true → (x ≡ live_reason h b c) × P) → (x ≡ reason_of h b) × P
-  told_live c l q f = let (x, p) = f (rw e l) in (x ∙ q ∙ rw e refl, p)
-
   pub told_gone : {x : Reason} {path : List ℕ} (n : ℕ) → is_live s ≡ false → x ≡ reason_from h b s → path ≡ replicate n 0
       → (x ≡ reason_of h b) × (path ≡ padded (path_numbers (path_of h b)) n)
   told_gone n l q z = (q ∙ rw e refl, no_numbers n (no_path h b (rw e l)) z)
@@ -96,7 +93,7 @@ pub cleared : (m : ℕ) (ns ys : List ℕ) {zs : List ℕ} → length ys ≡ len
 cleared m ns ys y e = e ∙ rw (same_len_mid 0 (m - 0) ns ys y) refl
 
 -- ---- in numbers
-pub numbers_as : {g : WhyGiven} {a : WhyNumbers} {x : WhyAnswer} {path queue came : List ℕ}
+pub numbers_as : {g : WhyGiven} {a : WhyNumbers} {x : Result Why ℕ} {path queue came : List ℕ}
     → (record { answer = x; path = path; queue = queue; came = came }) ≡ g → a ≡ why_numbers x
     → (record { answer = a; path = path; queue = queue; came = came }) ≡ in_numbers g
 unfolding in_numbers

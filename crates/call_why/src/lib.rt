@@ -6,14 +6,14 @@
 ghost use Rattle.std.specs.Prelude.{◌≡◌, ◌≢◌, true, ◌&&◌, List, ℕ, ◌*◌, ◌≤◌, leb, length};
 ghost use Rattle.machine.specs.declared.State.TheVariants.{Outside};
 ghost use Rattle.machine.specs.WellFormed.{Block};
-ghost use Rattle.machine.specs.Heap.{heap};
+ghost use Rattle.machine.specs.Heap.{Heap, heap};
 ghost use Rattle.machine.specs.State.{state_of, is_live};
 ghost use Rattle.machine.specs.Frame.{Sized};
 ghost use Rattle.machine.specs.Search.{path_numbers};
-ghost use Rattle.machine.specs.Why.{path_of, live_reason, reason_of, padded, why, told, kept_number, reason_numbers, why_numbers};
+ghost use Rattle.machine.specs.Why.{path_of, live_reason, reason_from, reason_of, padded, why, told, kept_number, reason_numbers, why_numbers};
 ghost use Rattle.call_why.specs.Numbers.{why_in_numbers};
 
-use machine::{Colour, Reason, Regs, State, Why, WhyAnswer, WhyNumbers};
+use machine::{Colour, Reason, Regs, State, Why, WhyNumbers};
 
 // Whether the lent buffers are long enough for m blocks: two numbers a pair of the path, one a block in each working buffer.
 fn long_enough(m: u32, path: usize, queue: usize, came: usize) -> bool
@@ -51,6 +51,20 @@ fn live_reason(
     Reason::Reachable(pairs)
 }
 
+// The colour of a block in this state, if it is allocated and not doomed.
+fn colour_of(s: State) -> Colour
+    ensures { (h : Heap) (b : ℕ) → is_live s ≡ true → reason_from h b s ≡ live_reason h b result }
+{
+    match s {
+        State::LiveWhite => Colour::White,
+        State::Doomed => Colour::White,
+        State::Grey => Colour::Grey,
+        State::Black => Colour::Black,
+        State::Free => Colour::Free,
+        State::Outside => Colour::Outside,
+    }
+}
+
 // The reason of the block b, and the path to it, if there is one; else the path is cleared. The working buffers have M numbers each.
 fn reason(
     r: Regs,
@@ -67,26 +81,19 @@ fn reason(
     ensures { (result ≡ reason_of (heap r words.now colours.now bytes.now) b)
         × (path.new ≡ padded (path_numbers (path_of (heap r words.now colours.now bytes.now) b)) (length path.old)) }
 {
-    let m = r.blocks;
-    match part_state::state_of(m, r.phase, r.position, colours, b) {
-        State::LiveWhite => {
-            live_reason(m, r.root, words, bytes, path, queue, came, b, Colour::White)
-        }
+    let s = part_state::state_of(r.blocks, r.phase, r.position, colours, b);
+    match s {
         State::Doomed => {
-            part_search::clear(path);
+            path.fill(0);
             Reason::Doomed
         }
-        State::Grey => { live_reason(m, r.root, words, bytes, path, queue, came, b, Colour::Grey) }
-        State::Black => {
-            live_reason(m, r.root, words, bytes, path, queue, came, b, Colour::Black)
-        }
         State::Free => {
-            part_search::clear(path);
+            path.fill(0);
             Reason::Free
         }
-        State::Outside => {
+        State::LiveWhite | State::Grey | State::Black | State::Outside => {
             live_reason(
-                m,
+                r.blocks,
                 r.root,
                 words,
                 bytes,
@@ -94,7 +101,7 @@ fn reason(
                 queue,
                 came,
                 b,
-                Colour::Outside,
+                colour_of(s),
             )
         }
     }
@@ -111,36 +118,36 @@ pub fn why(
     queue: &mut [u32],
     came: &mut [u32],
     b: u32,
-) -> WhyAnswer
+) -> Result<Why, u32>
     ensures { (record { answer = result; path = path.new; queue = queue.new; came = came.new })
         ≡ why path.old queue.old came.old b (heap r words.now colours.now bytes.now) }
 {
-    if part_checks::fits(r.blocks, r.pace, words.len(), colours.len(), bytes.len()) {
-        if call_audit::passes(r, words, colours, bytes) {
-            if part_colours::is_block(r.blocks, b) {
-                if long_enough(r.blocks, path.len(), queue.len(), came.len()) {
-                    let m = r.blocks as usize;
-                    let x = reason(
-                        r,
-                        words,
-                        colours,
-                        bytes,
-                        path,
-                        &mut queue[0..m],
-                        &mut came[0..m],
-                        b,
-                    );
-                    part_search::clear(queue);
-                    part_search::clear(came);
-                    return WhyAnswer::Told(Why { reason: x });
-                }
-                return WhyAnswer::Refused(machine::BAD_LENGTH);
-            }
-            return WhyAnswer::Refused(machine::NO_PLACE);
-        }
-        return WhyAnswer::Refused(machine::BAD_HEAP);
+    if !part_checks::fits(r.blocks, r.pace, words.len(), colours.len(), bytes.len()) {
+        return Err(machine::UNFIT);
     }
-    WhyAnswer::Refused(machine::UNFIT)
+    if !call_audit::passes(r, words, colours, bytes) {
+        return Err(machine::BAD_HEAP);
+    }
+    if !part_colours::is_block(r.blocks, b) {
+        return Err(machine::NO_PLACE);
+    }
+    if !long_enough(r.blocks, path.len(), queue.len(), came.len()) {
+        return Err(machine::BAD_LENGTH);
+    }
+    let m = r.blocks as usize;
+    let reason = reason(
+        r,
+        words,
+        colours,
+        bytes,
+        path,
+        &mut queue[0..m],
+        &mut came[0..m],
+        b,
+    );
+    queue.fill(0);
+    came.fill(0);
+    Ok(Why { reason })
 }
 
 // The number of a kept block's colour, as State tells it.
@@ -162,9 +169,9 @@ fn told(reason: u32, pairs: u32, state: u32) -> WhyNumbers
 {
     WhyNumbers {
         refusal: 0,
-        reason: reason,
-        pairs: pairs,
-        state: state,
+        reason,
+        pairs,
+        state,
     }
 }
 
@@ -181,20 +188,17 @@ fn reason_numbers(x: Reason) -> WhyNumbers
 }
 
 // An answer in numbers.
-fn numbers_of(a: WhyAnswer) -> WhyNumbers
+fn numbers_of(a: Result<Why, u32>) -> WhyNumbers
     ensures { result ≡ why_numbers a }
 {
     match a {
-        WhyAnswer::Refused(n) => WhyNumbers {
+        Ok(w) => reason_numbers(w.reason),
+        Err(n) => WhyNumbers {
             refusal: n,
             reason: 0,
             pairs: 0,
             state: 0,
         },
-        WhyAnswer::Told(w) => {
-            let x = w.reason;
-            reason_numbers(x)
-        }
     }
 }
 

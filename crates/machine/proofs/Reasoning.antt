@@ -18,9 +18,8 @@ use Rattle.machine.specs.declared.State.{State}
 use Rattle.machine.specs.declared.State.TheVariants as states
 use Rattle.machine.specs.declared.Reason.{Reason}
 use Rattle.machine.specs.declared.Reason.TheVariants.{Reachable, Kept}
-use Rattle.machine.specs.declared.WhyAnswer.{WhyAnswer}
-use Rattle.machine.specs.declared.WhyAnswer.TheVariants.{Refused, Told}
-use Rattle.std.specs.Prelude.{if◌then◌else◌}
+use Rattle.machine.specs.declared.Why.{Why}
+use Rattle.std.specs.Prelude.{if◌then◌else◌, Result, Ok, Err}
 use Rattle.machine.specs.Tests.{◌▷◌}
 use Rattle.machine.specs.Block.{is_block}
 use Rattle.machine.specs.Heap.{Heap, colouring}
@@ -37,7 +36,7 @@ use Rattle.machine.proofs.Counting.{all_holds}
 use Rattle.machine.proofs.Passing.{block_state}
 
 -- what the call gives
-abbrev pub why_given : WhyAnswer → List ℕ → List ℕ → List ℕ → WhyGiven
+abbrev pub why_given : Result Why ℕ → List ℕ → List ℕ → List ℕ → WhyGiven
 why_given a path queue came = record { answer = a; path = path; queue = queue; came = came }
 
 module _ (h : Heap) (b : ℕ) where
@@ -71,17 +70,17 @@ module _ (h : Heap) (b : ℕ) where
     live_reached o e = rw e (simp (ne_eqb _ _ o))
 
   module _ (path queue came : List ℕ) where
-    pub why_unfit : heap_fits h ≡ false → why_given (Refused 1) path queue came ≡ why path queue came b h
+    pub why_unfit : heap_fits h ≡ false → why_given (Err 1) path queue came ≡ why path queue came b h
     unfolding why why_refusal ◌▷◌
     why_unfit f = simp f
 
     module _ (f : heap_fits h ≡ true) where
-      pub why_bad : passes h ≡ false → why_given (Refused 10) path queue came ≡ why path queue came b h
+      pub why_bad : passes h ≡ false → why_given (Err 10) path queue came ≡ why path queue came b h
       unfolding why why_refusal ◌▷◌
       why_bad p = simp (f, p)
 
       module _ (p : passes h ≡ true) where
-        pub why_nowhere : is_block h.regs.blocks b ≡ false → why_given (Refused 3) path queue came ≡ why path queue came b h
+        pub why_nowhere : is_block h.regs.blocks b ≡ false → why_given (Err 3) path queue came ≡ why path queue came b h
         unfolding why why_refusal ◌▷◌
         why_nowhere i = simp (f, p, i)
 
@@ -89,14 +88,14 @@ module _ (h : Heap) (b : ℕ) where
           abbrev room : Bool
           room = leb (2 * h.regs.blocks) (length path) && (leb h.regs.blocks (length queue) && leb h.regs.blocks (length came))
 
-          pub why_short : room ≡ false → why_given (Refused 13) path queue came ≡ why path queue came b h
+          pub why_short : room ≡ false → why_given (Err 13) path queue came ≡ why path queue came b h
           unfolding why why_refusal ◌▷◌
           why_short l = simp (f, p, i, l)
 
           pub why_told : {x : Reason} {path' queue' came' : List ℕ} → room ≡ true → x ≡ reason_of h b
               → path' ≡ padded (path_numbers (path_of h b)) (length path)
               → queue' ≡ replicate (length queue) 0 → came' ≡ replicate (length came) 0
-              → why_given (Told (record { reason = x })) path' queue' came' ≡ why path queue came b h
+              → why_given (Ok (record { reason = x })) path' queue' came' ≡ why path queue came b h
           unfolding why why_refusal ◌▷◌
           why_told l e g j k = rw (e, g, j, k) (simp (f, p, i, l))
 

@@ -1,12 +1,12 @@
 -- Why: the reason why a block is still here.
 --     path_of h b           the path from the root to b, of a block that is allocated and not doomed; of any other none
 --     reason_of h b         the reason
---     WhyGiven             what the call gives: the answer, and the three lent buffers afterwards; the heap stays
+--     WhyGiven             what the call gives: the answer, Ok with the reason or Err with the refusal, and the three lent buffers afterwards; the heap stays
 --     why_refusal lp lq lc b h     the first refusal, in the order tested, or 0; the numbers are the lengths of the lent buffers
 --     why path queue came b h     the call
 --     why_numbers a         the answer in numbers, for a caller that takes no enum
 -- Assumes nothing.
-use Rattle.std.specs.Prelude.{ℕ, ◌*◌, ◌-◌, ◌&&◌, List, [], ◌++◌, eqb, leb, length, replicate, if◌then◌else◌}
+use Rattle.std.specs.Prelude.{ℕ, ◌*◌, ◌-◌, ◌&&◌, List, [], ◌++◌, eqb, leb, length, replicate, if◌then◌else◌, Result, Ok, Err}
 use Rattle.machine.specs.declared.Colour.{Colour}
 use Rattle.machine.specs.declared.Colour.TheVariants as colours
 use Rattle.machine.specs.declared.State.{State}
@@ -14,8 +14,6 @@ use Rattle.machine.specs.declared.State.TheVariants as states
 use Rattle.machine.specs.declared.Reason.{Reason}
 use Rattle.machine.specs.declared.Reason.TheVariants.{Free, Doomed, Reachable, Kept}
 use Rattle.machine.specs.declared.Why.{Why}
-use Rattle.machine.specs.declared.WhyAnswer.{WhyAnswer}
-use Rattle.machine.specs.declared.WhyAnswer.TheVariants.{Refused, Told}
 use Rattle.machine.specs.declared.WhyNumbers.{WhyNumbers}
 use Rattle.machine.specs.Tests.{◌▷◌}
 use Rattle.machine.specs.Block.{is_block}
@@ -46,7 +44,7 @@ abbrev pub reason_of : Heap → ℕ → Reason
 reason_of h b = reason_from h b (state_of h b)
 
 pub record WhyGiven : Type 0 where
-  pub answer : WhyAnswer
+  pub answer : Result Why ℕ
   pub path : List ℕ
   pub queue : List ℕ
   pub came : List ℕ
@@ -69,14 +67,14 @@ why path queue came b h =
     if eqb (why_refusal (length path) (length queue) (length came) b h) 0
     then
     record {
-      answer = Told (record { reason = reason_of h b });
+      answer = Ok (record { reason = reason_of h b });
       path = padded (path_numbers (path_of h b)) (length path);
       queue = replicate (length queue) 0;
       came = replicate (length came) 0;
     }
     else
     record {
-      answer = Refused (why_refusal (length path) (length queue) (length came) b h);
+      answer = Err (why_refusal (length path) (length queue) (length came) b h);
       path = path;
       queue = queue;
       came = came;
@@ -99,6 +97,6 @@ reason_numbers Doomed = told 2 0 0
 reason_numbers (Reachable n) = told 3 n 0
 reason_numbers (Kept c) = told 4 0 (kept_number c)
 
-abbrev pub why_numbers : WhyAnswer → WhyNumbers
-why_numbers (Refused n) = record { refusal = n; reason = 0; pairs = 0; state = 0 }
-why_numbers (Told w) = reason_numbers w.reason
+abbrev pub why_numbers : Result Why ℕ → WhyNumbers
+why_numbers (Err n) = record { refusal = n; reason = 0; pairs = 0; state = 0 }
+why_numbers (Ok w) = reason_numbers w.reason

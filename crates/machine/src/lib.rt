@@ -188,14 +188,7 @@ pub struct Why {
     pub reason: Reason,
 }
 
-// What Why answers: refused, by this number, or the reason.
-#[derive(Clone, Copy)]
-pub enum WhyAnswer {
-    Refused(u32),
-    Told(Why),
-}
-
-// The same in numbers: reason is 0 where refusal isn't, else 1 for a free block, 2 for a doomed one, 3 for a reachable one, whose path
+// What Why answers, in numbers: reason is 0 where refusal isn't, else 1 for a free block, 2 for a doomed one, 3 for a reachable one, whose path
 // has so many pairs, 4 for one that is kept, whose state is told as State tells it.
 #[repr(C)]
 #[derive(Clone, Copy)]

@@ -23,20 +23,11 @@ pub fn read_word(words: &[u32], bytes: &[u8], b: u32, w: u32) -> ReadAnswer
     ensures { (r : Regs) (cs : List ℕ) → result ≡ read_answer b w (heap r words.now cs bytes.now) }
 {
     let at = b as usize - 2;
-    let value = words[8 * at + w as usize];
-    if bit(bytes[at], w as usize) {
-        return ReadAnswer {
-            refusal: 0,
-            value: value,
-            units: 0,
-            reference: 1,
-        };
-    }
     ReadAnswer {
         refusal: 0,
-        value: value,
+        value: words[8 * at + w as usize],
         units: 0,
-        reference: 0,
+        reference: u32::from(bit(bytes[at], w as usize)),
     }
 }
 
@@ -78,23 +69,13 @@ pub fn clear(part: &mut [u32], link: u32)
     requires { length part.old ≡ 8 }
     ensures { part.new ≡ free_words link }
 {
+    part.fill(0);
     part[0] = link;
-    part[1] = 0;
-    part[2] = 0;
-    part[3] = 0;
-    part[4] = 0;
-    part[5] = 0;
-    part[6] = 0;
-    part[7] = 0;
 }
 
 // No word of any block holds a reference: what Format makes of the reference bytes.
 pub fn fresh(bytes: &mut [u8])
     ensures { bytes.new ≡ replicate (length bytes.old) 0 }
 {
-    let mut i = 0;
-    while i < bytes.len() {
-        bytes[i] = 0;
-        i += 1;
-    }
+    bytes.fill(0);
 }

@@ -196,9 +196,5 @@ pub fn seen(m: u32, colours: &[u32], b: u32) -> Seen
 pub fn fresh(colours: &mut [u32])
     ensures { colours.new ≡ fresh_colours (length colours.old) }
 {
-    let mut i = 0;
-    while i < colours.len() {
-        colours[i] = machine::FREE;
-        i += 1;
-    }
+    colours.fill(machine::FREE);
 }

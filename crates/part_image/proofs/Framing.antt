@@ -1,30 +1,25 @@
 -- Laws of the counts of an image: one for each way out of the code that looks at them.
---     known_as                                             which counts of registers an image may have
 --     length_off, colours_off, bytes_off, blocks_as        the ways of blocks_framed
 --     behind_as                                            what is behind the registers
 --     bare_off, unknown_off, known_long, framed_as         the ways of framed
 --     framed_least                                         bytes that are framed have room for the registers
---     mark_earlier, mark_tenth, registers_read             the registers, and the mark among them, by the numbers read
+--     mark_earlier, mark_tenth, registers_read             the mark by the number read, and the registers by the first nine
 -- Assumes nothing.
 use Prim.Native.Nat.{ℕ, ◌+◌, ◌-◌, ◌*◌, ◌≤◌, ◌<◌}
 use mathlib.Core.Path.{◌≡◌, refl, sym, ◌∙◌}
 use mathlib.Core.Logic.{◌≢◌}
-use mathlib.Core.Bool.{Bool, true, false, ◌||◌}
+use mathlib.Core.Bool.{Bool, true, false}
 use mathlib.Core.List.{List}
 use native.Mathlib.Omega.{arith}
 use lib.Dec.{eqb}
-use lib.ListN.{length, take, drop, length-drop}
+use lib.ListN.{length, get_or, take, drop, length-drop}
 use lib.Seq.{take_all, drop-drop}
 use borrow.Author.Tests.{eq-eqb, ne_eqb}
-use Rattle.machine.specs.Image.{number, numbers_from, register_count, earlier_count, regs_of, past_numbers, decode, count_known}
+use Rattle.machine.specs.Image.{number, numbers_from, earlier_count, regs_of, past_numbers, decode, count_known}
 use Rattle.machine.specs.Frame.{blocks_at, bytes_at, words_at, blocks_length, at, blocks_framed, framed}
 use Rattle.machine.proofs.Tests.{by_test}
 use Rattle.machine.proofs.Images.{by_count}
 use Rattle.machine.proofs.Frames.{blocks_frame, framed_known, framed_blocks, regs_placed}
-
-pub known_as : (n : ℕ) → (eqb n register_count || eqb n earlier_count) ≡ count_known n
-unfolding count_known
-known_as n = refl
 
 module _ (m : ℕ) (j : List ℕ) where
   pub length_off : length j ≢ blocks_length m → false ≡ blocks_framed m j
@@ -86,9 +81,19 @@ module _ (i : List ℕ) where
         g ∙ by_count (λ (n : ℕ). n ≢ earlier_count → at i 40 ≡ (regs_of (numbers_from n (drop 4 i))).mark) (number i) (framed_known i f)
         (λ y. simp drop-drop) (λ y. absurd (y refl)) (λ y. z (e ∙ y))
 
-    pub registers_read : {a b c d e g h j k x : ℕ}
-        → a ≡ at i 4 → b ≡ at i 8 → c ≡ at i 12 → d ≡ at i 16 → e ≡ at i 20 → g ≡ at i 24 → h ≡ at i 28 → j ≡ at i 32 → k ≡ at i 36
-        → x ≡ (decode i).regs.mark
-        → (record { blocks = a; pace = b; phase = c; grey = d; free = e; count = g; position = h; root = j; cycle = k; mark = x })
+    pub registers_read : {xs : List ℕ} {x : ℕ} → xs ≡ numbers_from 9 (drop 4 i) → x ≡ (decode i).regs.mark
+        → (record {
+          blocks = get_or xs 0 0;
+          pace = get_or xs 1 0;
+          phase = get_or xs 2 0;
+          grey = get_or xs 3 0;
+          free = get_or xs 4 0;
+          count = get_or xs 5 0;
+          position = get_or xs 6 0;
+          root = get_or xs 7 0;
+          cycle = get_or xs 8 0;
+          mark = x;
+        })
         ≡ (decode i).regs
-    registers_read ea eb ec ed ee eg eh ej ek ex = rw (ea, eb, ec, ed, ee, eg, eh, ej, ek, ex) (sym (regs_placed i f))
+    unfolding numbers_from
+    registers_read e g = rw (e, g) (simp drop-drop (sym (regs_placed i f)))

@@ -1,15 +1,14 @@
--- Laws of the loops that fill a buffer from an image.
+-- Laws of the loop that fills a buffer from an image.
 --     filled_all                   all is filled
 --     fours_more                   one number more
---     bytes_more                   one byte more
 -- Assumes nothing.
 use Prim.Native.Nat.{ℕ, zero, suc, ◌+◌, ◌*◌, ◌≤◌, ◌<◌}
-use mathlib.Core.Path.{◌≡◌, refl, sym, ◌∙◌}
+use mathlib.Core.Path.{◌≡◌, refl, ◌∙◌}
 use mathlib.Core.List.{List, [], ◌∷◌, ◌++◌, append_assoc, append-nil}
 use native.Mathlib.Numerals.{add-one}
 use native.Mathlib.Omega.{arith}
-use lib.ListN.{length, get_or, take, drop, set, length-drop, drop_of_length-le}
-use lib.Seq.{length-take-le, take-suc, drop-cons, drop-drop, get_or-drop, set_at}
+use lib.ListN.{length, get_or, drop, set, drop_of_length-le}
+use lib.Seq.{drop-cons, drop-drop, set_at}
 use Rattle.machine.specs.Image.{number, numbers_from}
 use Rattle.machine.proofs.Fours.{from_length}
 
@@ -29,20 +28,9 @@ from_suc (suc k) j =
     let e : 4 * suc k ≡ 4 + 4 * k = omega arith in
     rw (e, ← drop-drop (4 * k) 4 j, ← from_suc k (drop 4 j)) refl
 
-module _ (at k : ℕ) (i to : List ℕ) {now : List ℕ} (l : k < length to) where
-  pub fours_more : {v : ℕ} → v ≡ number (drop (at + 4 * k) i) → now ≡ numbers_from k (drop at i) ++ drop k to
-      → set now k v ≡ numbers_from (k + 1) (drop at i) ++ drop (k + 1) to
-  fours_more {v} e f =
-      let d : number (drop (4 * k) (drop at i)) ≡ v = rw drop-drop (sym e) in
-      let g = filled_more k v (numbers_from k (drop at i)) to l (from_length k (drop at i)) f in
-      let s : numbers_from (k + 1) (drop at i) ≡ numbers_from k (drop at i) ++ (v ∷ []) = rw (add-one k, from_suc k (drop at i), d) refl in
-      rw s g
-
-  pub bytes_more : at + k < length i → now ≡ take k (drop at i) ++ drop k to
-      → set now k (get_or i (at + k) 0) ≡ take (k + 1) (drop at i) ++ drop (k + 1) to
-  bytes_more r f =
-      let n : k < length (drop at i) = simp length-drop (omega arith) in
-      let g = filled_more k (get_or i (at + k) 0) (take k (drop at i)) to l (length-take-le k (drop at i) (omega arith)) f in
-      let s : take (k + 1) (drop at i) ≡ take k (drop at i) ++ (get_or i (at + k) 0 ∷ []) =
-      rw (add-one k, take-suc (drop at i) k 0 n, get_or-drop) refl in
-      rw s g
+pub fours_more : (k : ℕ) (i to : List ℕ) {v : ℕ} {now : List ℕ} → k < length to → v ≡ number (drop (4 * k) i)
+    → now ≡ numbers_from k i ++ drop k to → set now k v ≡ numbers_from (k + 1) i ++ drop (k + 1) to
+fours_more k i to {v} l e f =
+    let g = filled_more k v (numbers_from k i) to l (from_length k i) f in
+    let s : numbers_from (k + 1) i ≡ numbers_from k i ++ (v ∷ []) = rw (add-one k, from_suc k i, e) refl in
+    rw s g

@@ -3,20 +3,19 @@
 --     placed_length            what is written into stays as long
 --     placed_on                bytes written behind others
 --     placed_front             bytes written from the start;     placed_behind: others behind them
---     one_placed, four_placed  one byte stored, and the four bytes of a number
+--     put_placed, rest_placed  a part that was lent and written, and all from a place on, when it is back
 --     number_placed            the number that four bytes of a list say
 --     fours_on, fours_all      a loop that writes numbers: one more, and all
---     bytes_on, bytes_all      a loop that writes single bytes
---     section_numbers, section_singles     a count and what it counts
+--     section                  a count and what it counts
 -- Assumes nothing.
-use Prim.Native.Nat.{ℕ, ◌+◌, ◌*◌, ◌/◌, ◌%◌, ◌≤◌, ◌<◌}
+use Prim.Native.Nat.{ℕ, ◌+◌, ◌-◌, ◌*◌, ◌≤◌, ◌<◌}
 use mathlib.Core.Path.{◌≡◌, refl, sym, ◌∙◌}
-use mathlib.Core.List.{List, [], ◌∷◌, ◌++◌, append_assoc, append-nil}
-use native.Mathlib.Numerals.{add-one, add-two, add-three}
+use mathlib.Core.List.{List, [], ◌++◌, append_assoc, append-nil}
+use native.Mathlib.Numerals.{add-one}
 use native.Mathlib.Omega.{arith}
-use lib.ListN.{length, get_or, take, drop, set, length-append, length-drop, take-append-drop}
-use lib.Seq.{length-take-le, take-suc, take_all, take_at, drop_at, drop-drop, get_or-drop, set_split, sets-eq}
-use Rattle.machine.specs.Image.{four, fours_of, numbers, singles, number}
+use lib.ListN.{length, get_or, take, drop, length-append, length-drop, take-append-drop, drop_of_length-le}
+use lib.Seq.{length-take-le, take-suc, take_all, take_at, drop_at, drop-drop, get_or-drop}
+use Rattle.machine.specs.Image.{four, fours_of, number}
 use Rattle.machine.proofs.Fours.{four_length, fours_length, fours_append}
 use Rattle.part_image.specs.Placing.{placed}
 
@@ -56,49 +55,40 @@ placed_behind xs ys out p n i e =
     let o = placed_on 0 xs out ys (omega arith) in
     rw (e, n, i, ← placed_front xs out) ((rw z at o) ∙ placed_front (xs ++ ys) out)
 
-pub one_placed : (at v : ℕ) (out : List ℕ) → at < length out → set out at v ≡ placed at (v ∷ []) out
+-- a part written from the place at on, when it is back
+pub put_placed : (at k : ℕ) (ys out : List ℕ) → length ys ≡ k → take at out ++ (ys ++ drop k (drop at out)) ≡ placed at ys out
 unfolding placed
-one_placed at v out l = rw (add-one at) (set_split out at v l)
+put_placed at k ys out e = rw (← e, drop-drop) refl
 
-pub four_placed : (at n : ℕ) (out : List ℕ) → at + 4 ≤ length out
-    → set (set (set (set out at (n % 256)) (at + 1) (n / 256 % 256)) (at + 2) (n / 65536 % 256)) (at + 3) (n / 16777216 % 256)
-    ≡ placed at (four n) out
-unfolding placed four
-four_placed at n out l =
-    rw (add-one at, add-two at, add-three at, ← append_assoc (take at out) (four n) (drop (at + 4) out)) (sets-eq (four n) out at l)
+-- all from the place at on, into which was written at its front
+pub rest_placed : (at : ℕ) (ys out : List ℕ)
+    → take at out ++ (placed 0 ys (take (length out - at) (drop at out)) ++ drop (length out - at) (drop at out)) ≡ placed at ys out
+unfolding placed
+rest_placed at ys out =
+    let q = drop at out in
+    let l : length q ≤ length out - at = omega (arith, length-drop at out) in
+    let z : 0 + length ys ≡ length ys = omega arith in
+    rw (take_all (length out - at) q l, drop_of_length-le q {i = length out - at} l, append-nil, z, drop-drop) refl
 
 pub number_placed : (at : ℕ) (i : List ℕ)
     → get_or i at 0 + 256 * get_or i (at + 1) 0 + 65536 * get_or i (at + 2) 0 + 16777216 * get_or i (at + 3) 0 ≡ number (drop at i)
 unfolding number
 number_placed at i = let e : at + 0 ≡ at = omega arith in simp (get_or-drop, e)
 
-module _ (at k : ℕ) (xs out : List ℕ) {now : List ℕ} (room : at ≤ length out) where
-  pub fours_on : {then : List ℕ} → k < length xs → now ≡ placed at (fours_of (take k xs)) out
-      → then ≡ placed (at + 4 * k) (four (get_or xs k 0)) now → then ≡ placed at (fours_of (take (k + 1) xs)) out
+module _ (k : ℕ) (xs out : List ℕ) {now : List ℕ} where
+  pub fours_on : {then : List ℕ} → k < length xs → now ≡ placed 0 (fours_of (take k xs)) out
+      → then ≡ placed (4 * k) (four (get_or xs k 0)) now → then ≡ placed 0 (fours_of (take (k + 1) xs)) out
   unfolding fours_of
   fours_on l i e =
       let n : length (fours_of (take k xs)) ≡ 4 * k = fours_length (take k xs) ∙ rw (length-take-le k xs (omega arith)) refl in
+      let z : 0 + length (fours_of (take k xs)) ≡ 4 * k = omega arith in
       let t : fours_of (take (k + 1) xs) ≡ fours_of (take k xs) ++ four (get_or xs k 0) =
       rw (add-one k, take-suc xs k 0 l, fours_append, append-nil) refl in
-      rw (e, i, t, ← n) (placed_on at (fours_of (take k xs)) out (four (get_or xs k 0)) room)
+      rw (e, i, t, ← z) (placed_on 0 (fours_of (take k xs)) out (four (get_or xs k 0)) (omega arith))
 
-  pub fours_all : length xs ≤ k → now ≡ placed at (fours_of (take k xs)) out → now ≡ placed at (fours_of xs) out
+  pub fours_all : length xs ≤ k → now ≡ placed 0 (fours_of (take k xs)) out → now ≡ placed 0 (fours_of xs) out
   fours_all l i = i ∙ rw (take_all k xs l) refl
 
-  pub bytes_on : k < length xs → at + k < length out → now ≡ placed at (take k xs) out
-      → set now (at + k) (get_or xs k 0) ≡ placed at (take (k + 1) xs) out
-  bytes_on l r i =
-      let n : length (take k xs) ≡ k = length-take-le k xs (omega arith) in
-      let s : at + k < length (placed at (take k xs) out) = rw (placed_length at (take k xs) out (omega arith)) r in
-      rw (i, one_placed (at + k) (get_or xs k 0) (placed at (take k xs) out) s, add-one k, take-suc xs k 0 l)
-      (rw n at (placed_on at (take k xs) out (get_or xs k 0 ∷ []) room))
-
-  pub bytes_all : length xs ≤ k → now ≡ placed at (take k xs) out → now ≡ placed at xs out
-  bytes_all l i = i ∙ rw (take_all k xs l) refl
-
-module _ (at : ℕ) (xs out : List ℕ) {now then : List ℕ} (room : at ≤ length out) (e : now ≡ placed at (four (length xs)) out) where
-  pub section_numbers : then ≡ placed (at + 4) (fours_of xs) now → then ≡ placed at (numbers xs) out
-  section_numbers f = let n = four_length (length xs) in rw (f, e) (rw n at (placed_on at (four (length xs)) out (fours_of xs) room))
-
-  pub section_singles : then ≡ placed (at + 4) xs now → then ≡ placed at (singles xs) out
-  section_singles f = let n = four_length (length xs) in rw (f, e) (rw n at (placed_on at (four (length xs)) out xs room))
+pub section : (at : ℕ) (bs out : List ℕ) (n : ℕ) {now then : List ℕ} → at ≤ length out → now ≡ placed at (four n) out
+    → then ≡ placed (at + 4) bs now → then ≡ placed at (four n ++ bs) out
+section at bs out n room e f = let k = four_length n in rw (f, e) (rw k at (placed_on at (four n) out bs room))

@@ -4,7 +4,7 @@ ghost use Rattle.std.specs.Prelude.{◌≡◌, true, ◌^◌, ◌≤◌, ◌<◌
 ghost use Rattle.machine.specs.Image.{number, past_numbers, decode, count_known};
 ghost use Rattle.machine.specs.Frame.{blocks_at, bytes_at, words_at, blocks_length, image_length, at, blocks_framed, framed};
 
-use super::number_at;
+use super::{get_items, number_at};
 use machine::Regs;
 
 // How many registers an image has.
@@ -52,10 +52,11 @@ pub fn image_length(m: usize) -> usize
 }
 
 // Whether an image may have n registers.
+#[tactic(auto, unfolding(machine::specs::Image::count_known))]
 fn count_known(n: u32) -> bool
     ensures { result ≡ count_known n }
 {
-    (n == REGISTERS) | (n == EARLIER)
+    matches!(n, REGISTERS | EARLIER)
 }
 
 // Whether the counts and the length of the sections behind the registers are those of m blocks.
@@ -113,16 +114,29 @@ pub fn get_registers(image: &[u8]) -> Regs
     requires { (framed image.now ≡ true) × (at image.now 4 ≤ 16384) }
     ensures { result ≡ (decode image.now).regs }
 {
+    let mut registers = [0u32; 9];
+    get_items(image, 4, &mut registers);
+    let [
+        blocks,
+        pace,
+        phase,
+        grey,
+        free,
+        count,
+        position,
+        root,
+        cycle,
+    ] = registers;
     Regs {
-        blocks: number_at(image, 4),
-        pace: number_at(image, 8),
-        phase: number_at(image, 12),
-        grey: number_at(image, 16),
-        free: number_at(image, 20),
-        count: number_at(image, 24),
-        position: number_at(image, 28),
-        root: number_at(image, 32),
-        cycle: number_at(image, 36),
+        blocks,
+        pace,
+        phase,
+        grey,
+        free,
+        count,
+        position,
+        root,
+        cycle,
         mark: get_mark(image),
     }
 }

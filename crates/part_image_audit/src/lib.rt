@@ -84,7 +84,7 @@ fn block_passes(r: Regs, sections: &[u8], b: u32) -> bool
     let byte = sections[part_image::frame::bytes_at(m) + 4 + i];
     let s = state_of(r, sections, b);
     let mut part = [0u32; 8];
-    part_image::get_fours(
+    part_image::get_items(
         sections,
         part_image::frame::words_at(m) + 4 + 32 * i,
         &mut part,

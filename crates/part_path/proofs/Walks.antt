@@ -4,21 +4,19 @@
 --     hops_most                how large it is
 --     hops_start, hops_more, hops_out, hops_end     the loop that counts: its start, a pair more, its two ends
 --     path_length, path-back   the path's length, and the path, by the count
---     way_more, way_none       what the test of how a block was come to says
 --     hops_left, hops_next     the pairs left to write: all of them, and one less, where the block was come to by a word
 --     to_come, write_start, write_step, write_end     the loop that writes the path from its last pair on: what the buffer is going to be
 --     path_most, put_back      how long the path is; the buffer with zeros behind it
 -- Assumes nothing.
 use Prim.Native.Nat.{ℕ, zero, suc, ◌+◌, ◌-◌, ◌*◌, ◌/◌, ◌%◌, ◌≤◌, ◌<◌}
 use mathlib.Core.Path.{◌≡◌, refl, sym, ◌∙◌, ap}
-use mathlib.Core.Bool.{true, false}
 use mathlib.Core.List.{List, [], ◌∷◌, ◌++◌, append_assoc, append-nil}
 use native.Mathlib.Omega.{arith}
 use native.Mathlib.Numerals.{add-one}
-use lib.Dec.{leb, ltb}
-use lib.ListN.{length, get_or, take, drop, set, replicate, length-append, length-set, length-take, length-drop, drop_of_length-le}
+use lib.Dec.{leb}
+use lib.ListN.{length, get_or, take, drop, set, replicate, length-drop, drop_of_length-le}
 use lib.Seq.{length-take-le, drop-cons, drop-set-add, take_at}
-use borrow.Author.Tests.{leb-true, leb-false, le-leb, lt-leb, ltb-true, ltb-false}
+use borrow.Author.Tests.{leb-true, leb-false, le-leb, lt-leb}
 use Rattle.std.specs.Prelude.{if◌then◌else◌}
 use Rattle.machine.specs.Search.{came_to, Hop, last_hop, path_from, path_to, path_numbers}
 use Rattle.machine.specs.Why.{padded}
@@ -94,13 +92,6 @@ module _ (came : List ℕ) where
   path_length m x = ap (λ (hs : List Hop). length hs) (path_hops m x []) ∙ back_length (hops m x) x [] ∙ omega arith
 
   -- ---- the count
-  module _ (x : ℕ) {v : ℕ} (e : v ≡ came_to came x) where
-    pub way_more : ltb 1 v ≡ true → 1 < came_to came x
-    way_more t = let g = ltb-true 1 v t in omega arith
-
-    pub way_none : ltb 1 v ≡ false → came_to came x ≤ 1
-    way_none t = let g = ltb-false 1 v t in omega arith
-
   pub hops_start : (m x : ℕ) → hops m x ≡ 0 + hops (m - 0) x
   hops_start m x = let z : m - 0 ≡ m = omega arith in rw z (omega arith)
 

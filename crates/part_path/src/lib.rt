@@ -22,12 +22,14 @@ fn pairs(came: &[u32], x: u32) -> usize
     ensures { result ≡ length (path_to (length came.now) came.now x) }
 {
     let mut at = x;
-    let mut n: usize = 0;
-    while n < came.len() && way_to(came, at) > 1 {
-        at = way_to(came, at) / 8;
-        n += 1;
+    for n in 0..came.len() {
+        let way = way_to(came, at);
+        if way <= 1 {
+            return n;
+        }
+        at = way / 8;
     }
-    n
+    came.len()
 }
 
 // The path to the block x, which has n pairs, at the front of the buffer. It is written from its last pair on.
@@ -36,13 +38,11 @@ fn write(came: &[u32], x: u32, n: usize, path: &mut [u32])
     ensures { path.new ≡ path_numbers (path_to (length came.now) came.now x) ++ drop (2 * n) path.old }
 {
     let mut at = x;
-    let mut left = n;
-    while left > 0 {
+    for pair in (0..n).rev() {
         let way = way_to(came, at);
+        path[2 * pair] = way / 8;
+        path[2 * pair + 1] = way % 8;
         at = way / 8;
-        left -= 1;
-        path[2 * left] = at;
-        path[2 * left + 1] = way % 8;
     }
 }
 
@@ -54,7 +54,6 @@ pub fn put_path(came: &[u32], x: u32, path: &mut [u32]) -> u32
 {
     let n = pairs(came, x);
     write(came, x, n, path);
-    let end = path.len();
-    part_search::clear(&mut path[2 * n..end]);
+    path[2 * n..].fill(0);
     n as u32
 }

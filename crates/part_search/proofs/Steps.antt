@@ -10,7 +10,7 @@
 --     search_start, search_step, search_end     the loop over the queue: its start, a turn of it, and its end
 -- Assumes nothing.
 use Prim.Native.Nat.{ℕ, suc, ◌+◌, ◌-◌, ◌*◌, ◌%◌, ◌^◌, ◌≤◌, ◌<◌}
-use mathlib.Core.Path.{◌≡◌, refl, sym, ◌∙◌, ap, subst}
+use mathlib.Core.Path.{◌≡◌, refl, sym, ◌∙◌, subst}
 use mathlib.Core.Logic.{◌≢◌}
 use mathlib.Core.Bool.{true, false}
 use mathlib.Core.List.{List, [], ◌∷◌}
@@ -19,9 +19,9 @@ use native.Mathlib.Numerals.{add-one}
 use lib.Count.{count_trailing_zeros}
 use lib.ListN.{length, get_or, take, set, replicate, length-append, length-replicate}
 use lib.Seq.{length-take-le, take-suc-set, get_or-take}
-use Rattle.machine.specs.Block.{is_block, index, eight_words, byte_of}
+use Rattle.machine.specs.Block.{is_block, eight_words, byte_of}
 use Rattle.machine.specs.WellFormed.{Block}
-use Rattle.machine.specs.Search.{named_in, Found, found, meet, visit, onward, begun, search}
+use Rattle.machine.specs.Search.{named_in, Found, meet, visit, onward, begun, search}
 use Rattle.machine.specs.Searched.{Searched}
 use Rattle.machine.proofs.Blocks.{is_block_block, wrapped_block, wrapped_none}
 use Rattle.machine.proofs.Searching.{meet_new, meet_old, meet_none, visit_on, onward_on, onward_end, begun_root, begun_none, searched_most, searched_room}

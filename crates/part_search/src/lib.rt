@@ -2,21 +2,10 @@
 // and `came` how each block was come to. Each block is visited once, and each of its references looked at once.
 #![tactic(auto)]
 
-ghost use Rattle.std.specs.Prelude.{◌≡◌, ◌*◌, ◌≤◌, ◌<◌, length, replicate};
+ghost use Rattle.std.specs.Prelude.{◌≡◌, ◌*◌, ◌≤◌, ◌<◌, length};
 ghost use Rattle.machine.specs.WellFormed.{Block};
 ghost use Rattle.machine.specs.Search.{named_in, meet, visit, begun, search};
 ghost use Rattle.part_search.specs.Lying.{so_far, Lies, Gives, named_by};
-
-// All of the numbers 0.
-pub fn clear(numbers: &mut [u32])
-    ensures { numbers.new ≡ replicate (length numbers.old) 0 }
-{
-    let mut i = 0;
-    while i < numbers.len() {
-        numbers[i] = 0;
-        i += 1;
-    }
-}
 
 // Word w of the block b names x, which is any number: a block that wasn't found yet is found. Answers the number found afterwards.
 fn meet(m: u32, b: u32, w: u32, x: u32, queue: &mut [u32], came: &mut [u32], n: usize) -> usize
@@ -62,7 +51,7 @@ fn begin(m: u32, root: u32, queue: &mut [u32], came: &mut [u32]) -> usize
     requires { (m ≤ 16384) × (length queue.old ≡ m) × (length came.old ≡ m) }
     ensures { Gives result queue.new came.new (begun m root) }
 {
-    clear(came);
+    came.fill(0);
     if part_colours::is_block(m, root) {
         came[root as usize - 2] = 1;
         queue[0] = root;

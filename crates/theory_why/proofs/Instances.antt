@@ -9,7 +9,7 @@ use mathlib.Core.List.{List, ◌∷◌}
 use lib.Dec.{leb, eqb}
 use borrow.Author.Tests.{leb-true, eqb-false}
 use Rattle.machine.specs.declared.Colour.TheVariants.{White}
-use Rattle.machine.specs.declared.WhyAnswer.TheVariants.{Refused}
+use Rattle.std.specs.Prelude.{Err}
 use Rattle.machine.specs.Block.{word_of, byte_of, bit}
 use Rattle.machine.specs.Heap.{Heap}
 use Rattle.machine.specs.WellFormed.{WellFormed}
@@ -39,7 +39,7 @@ by {x = x} a w l s e n d = hop (record { block = refl; low = leb-true w 7 l; set
 
 -- a refusal, by the whole of what the call gives
 untouched :
-    {n : ℕ} {l : Lent} {g : WhyGiven} → g ≡ record { answer = Refused n; path = l.path; queue = l.queue; came = l.came }
+    {n : ℕ} {l : Lent} {g : WhyGiven} → g ≡ record { answer = Err n; path = l.path; queue = l.queue; came = l.came }
     → Refuses n l g
 untouched e = rw e (record { answer = refl; path = refl; queue = refl; came = refl })
 

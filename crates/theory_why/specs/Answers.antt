@@ -5,8 +5,7 @@
 --     Tells b h l g        g tells the reason; the path is in its buffer, and all else in the buffers is 0
 --     WhyAnswers l b h     which of them holds of the call, by the first test that fails
 -- Assumes nothing.
-use Rattle.std.specs.Prelude.{ℕ, ◌*◌, ◌-◌, ◌≤◌, ◌≡◌, true, false, List, ◌++◌, length, replicate}
-use Rattle.machine.specs.declared.WhyAnswer.TheVariants.{Refused, Told}
+use Rattle.std.specs.Prelude.{ℕ, ◌*◌, ◌-◌, ◌≤◌, ◌≡◌, true, false, List, ◌++◌, length, replicate, Ok, Err}
 use Rattle.machine.specs.Heap.{Heap}
 use Rattle.machine.specs.Entry.{heap_fits}
 use Rattle.machine.specs.WellFormed.{Block, WellFormed}
@@ -29,14 +28,14 @@ pub record Room (h : Heap) (l : Lent) : Type 0 where
 
 -- "Refusals .. changing no buffer"
 pub record Refuses (n : ℕ) (l : Lent) (g : WhyGiven) : Type 0 where
-  pub answer : g.answer ≡ Refused n
+  pub answer : g.answer ≡ Err n
   pub path : g.path ≡ l.path
   pub queue : g.queue ≡ l.queue
   pub came : g.came ≡ l.came
 
 -- "a path .. kept in a lent buffer"; "Path entries past the path and all working buffers end as 0."
 pub record Tells (b : ℕ) (h : Heap) (l : Lent) (g : WhyGiven) : Type 0 where
-  pub answer : g.answer ≡ Told (record { reason = reason_of h b })
+  pub answer : g.answer ≡ Ok (record { reason = reason_of h b })
   pub fits : 2 * length (path_of h b) ≤ length l.path
   pub path : g.path ≡ path_numbers (path_of h b) ++ replicate (length l.path - 2 * length (path_of h b)) 0
   pub queue : g.queue ≡ replicate (length l.queue) 0

@@ -8,11 +8,10 @@
 --     Given                each reason is given: the root, a block out of reach of each colour, a doomed and a free one
 --     Called               the call on `crossed`, told once and refused by each of its four refusals
 -- Assumes nothing.
-use Rattle.std.specs.Prelude.{ℕ, ◌≡◌, List, [], ◌∷◌, replicate}
+use Rattle.std.specs.Prelude.{ℕ, ◌≡◌, List, [], ◌∷◌, replicate, Ok}
 use Rattle.machine.specs.declared.Colour.TheVariants.{White, Grey, Black}
 use Rattle.machine.specs.declared.Reason.{Reason}
 use Rattle.machine.specs.declared.Reason.TheVariants.{Free, Doomed, Reachable, Kept}
-use Rattle.machine.specs.declared.WhyAnswer.TheVariants.{Told}
 use Rattle.machine.specs.Registers.{with_phase}
 use Rattle.machine.specs.Heap.{Heap, with_regs, with_colours}
 use Rattle.machine.specs.Format.{formatted}
@@ -77,7 +76,7 @@ pub record Called : Type 0 where
   pub told :
       why_lent lent 5 crossed
       ≡ record {
-        answer = Told (record { reason = Reachable 2 });
+        answer = Ok (record { reason = Reachable 2 });
         path = 2 ∷ 0 ∷ 3 ∷ 7 ∷ replicate 14 0;
         queue = replicate 10 0;
         came = replicate 9 0;

@@ -4,28 +4,26 @@ use Rattle.call_size.specs.Sizing.{suffices}
 use Rattle.call_size.proofs.Sizes.{few_in_a_short_cycle, no_pace, given_as, paced}
 use Rattle.call_size.proofs.is_enough.Goals as goal
 
-pub returns-then-u-eq0 : goal.returns-then-u-eq0
-unfolding suffices
-returns-then-u-eq0 c = no_pace _ _ c.if-u-eq0.true
-
 pub overflow_mul-result : goal.overflow_mul-result
 overflow_mul-result c =
-    let a = c.args in
-    let e = given_as _ _ _ c.if-u-eq0.false c.most_in_a_short_cycle.ensures in
-    omega (arith, e, few_in_a_short_cycle a.k a.p a.u c.if-u-eq0.false)
+    let e = given_as _ _ _ c.if-u-ne0.true c.most_in_a_short_cycle.ensures in
+    omega (arith, e, few_in_a_short_cycle c.args.k c.args.p c.args.u c.if-u-ne0.true)
 
 pub overflow_add-result : goal.overflow_add-result
 overflow_add-result c =
-    let a = c.args in
-    let e = given_as _ _ _ c.if-u-eq0.false c.most_in_a_short_cycle.ensures in
-    omega (arith, e, few_in_a_short_cycle a.k a.p a.u c.if-u-eq0.false)
+    let e = given_as _ _ _ c.if-u-ne0.true c.most_in_a_short_cycle.ensures in
+    omega (arith, e, few_in_a_short_cycle c.args.k c.args.p c.args.u c.if-u-ne0.true)
 
-pub overflow_add-result-2 : goal.overflow_add-result-2
-overflow_add-result-2 c =
-    let a = c.args in
-    let e = given_as _ _ _ c.if-u-eq0.false c.most_in_a_short_cycle.ensures in
-    omega (arith, e, few_in_a_short_cycle a.k a.p a.u c.if-u-eq0.false)
+pub overflow_add-result-then-u-ne0 : goal.overflow_add-result-then-u-ne0
+overflow_add-result-then-u-ne0 c =
+    let e = given_as _ _ _ c.if-u-ne0.true c.most_in_a_short_cycle.ensures in
+    omega (arith, e, few_in_a_short_cycle c.args.k c.args.p c.args.u c.if-u-ne0.true)
 
-pub returns : goal.returns
+pub returns-then-u-ne0 : goal.returns-then-u-ne0
 unfolding suffices
-returns c = rw (given_as _ _ _ c.if-u-eq0.false c.most_in_a_short_cycle.ensures) (paced _ _ c.if-u-eq0.false)
+returns-then-u-ne0 c =
+    rw (c.from.ensures, c.from-then-u-ne0.ensures, c.from-then-u-ne0-2.ensures, given_as _ _ _ c.if-u-ne0.true c.most_in_a_short_cycle.ensures) (paced _ _ c.if-u-ne0.true)
+
+pub returns-else-u-ne0 : goal.returns-else-u-ne0
+unfolding suffices
+returns-else-u-ne0 c = no_pace _ _ c.if-u-ne0.false

@@ -1,17 +1,13 @@
 -- `part_image::put_four` meets its contract. Assumes nothing.
 use native.Mathlib.Omega.{arith}
-use lib.ListN.{length-set}
-use Rattle.part_image.proofs.Placing.{four_placed}
+use Prim.Native.Nat.{◌+◌, ◌-◌}
+use mathlib.Core.Path.{◌≡◌, refl}
+use Rattle.machine.specs.Image.{four}
+use Rattle.part_image.proofs.Placing.{put_placed}
 use Rattle.part_image.proofs.put_four.Goals as goal
 
-pub bounds-out-at-2 : goal.bounds-out-at-2
-bounds-out-at-2 c = simp length-set (omega arith)
-
-pub bounds-out-at-3 : goal.bounds-out-at-3
-bounds-out-at-3 c = simp length-set (omega arith)
-
-pub bounds-out-at-4 : goal.bounds-out-at-4
-bounds-out-at-4 c = simp length-set (omega arith)
-
 pub returns : goal.returns
-returns c = four_placed c.args.at c.args.n c.args.out.now c.requires
+unfolding four
+returns c =
+    let e : c.args.at + 4 - c.args.at ≡ 4 = omega arith in
+    rw (c.copy_from_slice.ensures.after, c.to_le_bytes.ensures, e) (put_placed c.args.at 4 (four c.args.n) c.args.out.now refl)

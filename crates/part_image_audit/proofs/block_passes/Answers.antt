@@ -9,13 +9,13 @@ pub bounds-sections-bytes_at : goal.bounds-sections-bytes_at
 bounds-sections-bytes_at c =
     let l = laid_length c.requires.0 in search rules
 
-pub get_fours-requires : goal.get_fours-requires
-get_fours-requires c =
+pub get_items-requires : goal.get_items-requires
+get_items-requires c =
     let l = laid_length c.requires.0 in search rules
 
 pub returns : goal.returns
 returns c =
     let r = c.args.r in
     let state = c.state_of-s.ensures in
-    block_as _ _ _ _ _ state (eight_laid c.requires.0 c.requires.1 c.words_at.ensures c.get_fours.ensures)
+    block_as _ _ _ _ _ state (eight_laid c.requires.0 c.requires.1 c.words_at.ensures c.get_items.ensures)
     (rw (← byte_laid c.requires.0 c.requires.1 c.bytes_at.ensures) (c.passes_asked.ensures ∙ c.ask-asked.ensures r _ refl refl refl state))

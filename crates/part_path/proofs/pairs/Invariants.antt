@@ -1,4 +1,4 @@
-use Prim.Native.Nat.{◌+◌, ◌-◌, ◌≤◌}
+use Prim.Native.Nat.{◌+◌, ◌-◌}
 use mathlib.Core.Path.{◌≡◌}
 use lib.ListN.{length}
 use Rattle.machine.specs.WellFormed.{Block}
@@ -7,7 +7,4 @@ use Rattle.part_path.proofs.pairs.Given as goal
 
 abbrev pub invariant-loop-n : goal.invariant-loop-n
 invariant-loop-n l =
-    (l.n ≤ length l.came) × Block (length l.came) l.at × (hops l.came (length l.came) l.x ≡ l.n + hops l.came (length l.came - l.n) l.at)
-
-abbrev pub decreases-loop-n : goal.decreases-loop-n
-decreases-loop-n l = length l.came - l.n
+    Block (length l.came) l.at × (hops l.came (length l.came) l.x ≡ l.n + hops l.came (length l.came - l.n) l.at)

@@ -18,13 +18,13 @@ offset_bounds-path-n c =
     let most = path_most c.args.came.now _ _ c.pairs-n.ensures in
     let room = c.requires.1 in search rules
 
-pub slice_bounds-clear-count : goal.slice_bounds-clear-count
-slice_bounds-clear-count c =
+pub slice_bounds-fill-count : goal.slice_bounds-fill-count
+slice_bounds-fill-count c =
     let most = path_most c.args.came.now _ _ c.pairs-n.ensures in
     let room = c.requires.1 in omega (arith, c.write.auto.path)
 
-pub slice_bounds-clear-start : goal.slice_bounds-clear-start
-slice_bounds-clear-start c =
+pub slice_bounds-fill-start : goal.slice_bounds-fill-start
+slice_bounds-fill-start c =
     let most = path_most c.args.came.now _ _ c.pairs-n.ensures in
     let room = c.requires.1 in omega (arith, c.write.auto.path)
 
@@ -35,4 +35,4 @@ overflow_cast-result c =
 
 pub returns : goal.returns
 returns c =
-    (c.pairs-n.ensures, put_back c.args.came.now _ _ c.args.path.now _ c.pairs-n.ensures c.write.ensures c.write.auto.path c.clear.ensures)
+    (c.pairs-n.ensures, put_back c.args.came.now _ _ c.args.path.now _ c.pairs-n.ensures c.write.ensures c.write.auto.path (c.fill.ensures.after (λ y e. e)))

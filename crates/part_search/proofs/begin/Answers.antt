@@ -11,7 +11,7 @@ overflow_sub-came c = (is_block_block _ _ (so c.is_block.ensures c.if-is_block.t
 pub bounds-came-root : goal.bounds-came-root
 bounds-came-root c =
     let b = is_block_block _ _ (so c.is_block.ensures c.if-is_block.true) in
-    let n = zeros_length c.clear.ensures c.requires.2 in omega (arith, b.low, b.high)
+    let n = zeros_length (c.fill.ensures.after (λ y e. e)) c.requires.2 in omega (arith, b.low, b.high)
 
 pub bounds-queue-0 : goal.bounds-queue-0
 bounds-queue-0 c =
@@ -19,8 +19,8 @@ bounds-queue-0 c =
 
 pub returns-then-is_block : goal.returns-then-is_block
 returns-then-is_block c =
-    begins _ _ c.args.queue.now c.requires.1 (so c.is_block.ensures c.if-is_block.true) (zeros_as c.clear.ensures c.requires.2)
+    begins _ _ c.args.queue.now c.requires.1 (so c.is_block.ensures c.if-is_block.true) (zeros_as (c.fill.ensures.after (λ y e. e)) c.requires.2)
 
 pub returns : goal.returns
 returns c =
-    begins_nowhere _ _ c.args.queue.now c.requires.1 (so c.is_block.ensures c.if-is_block.false) (zeros_as c.clear.ensures c.requires.2)
+    begins_nowhere _ _ c.args.queue.now c.requires.1 (so c.is_block.ensures c.if-is_block.false) (zeros_as (c.fill.ensures.after (λ y e. e)) c.requires.2)

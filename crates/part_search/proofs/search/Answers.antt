@@ -1,5 +1,4 @@
 -- `part_search::search` meets its contract: the search is what remains of it, after the blocks visited. Assumes nothing.
-use Prim.Native.Nat.{◌-◌}
 use mathlib.Core.Path.{sym, ◌∙◌}
 use native.Mathlib.Omega.{arith}
 use Rattle.machine.specs.Search.{visit}

@@ -1,0 +1,8 @@
+use mathlib.Core.Path.{◌≡◌}
+use lib.ListN.{take}
+use Rattle.machine.specs.Image.{fours_of}
+use Rattle.part_image.specs.Placing.{placed}
+use Rattle.part_image.proofs.U32Item.put.Given as goal
+
+abbrev pub invariant-loop-k : goal.invariant-loop-k
+invariant-loop-k l = l.out ≡ placed 0 (fours_of (take l.k l.xs)) l.initial.out
