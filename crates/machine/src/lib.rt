@@ -153,7 +153,7 @@ pub struct Outcome {
 }
 
 // What a colour word means.
-#[derive(Clone, Copy)]
+#[derive(Clone, Copy, PartialEq, Eq)]
 pub enum Colour {
     White,
     Grey,

@@ -4,7 +4,6 @@ use borrow.Author.Fill.{fill_none}
 use native.Mathlib.Omega.{arith}
 use borrow.Author.Rules.{rules}
 use lib.ListN.{length-set}
-use Prim.Native.Nat.{◌-◌}
 use Rattle.part_colours.proofs.fresh.Goals as goal
 
 pub loop-i-init : goal.loop-i-init
