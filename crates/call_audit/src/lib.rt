@@ -31,16 +31,9 @@ pub fn audit(r: Regs, words: &[u32], colours: &[u32], bytes: &[u8]) -> Answer
     ensures answered { (record { answer = result; heap = heap r words.now colours.now bytes.now }) ≡ audit (heap r words.now colours.now bytes.now) }
     ensures meaning { (result.value ≡ 1) ↔ WellFormed (heap r words.now colours.now bytes.now) }
 {
-    if passes(r, words, colours, bytes) {
-        return Answer {
-            refusal: 0,
-            value: 1,
-            units: 0,
-        };
-    }
     Answer {
         refusal: 0,
-        value: 0,
+        value: u32::from(passes(r, words, colours, bytes)),
         units: 0,
     }
 }

@@ -18,7 +18,8 @@ pub fn may_name_all<B: Blocks>(blocks: &B, strict: bool, b: u32) -> bool
     requires { Block (B.held blocks.now).regs.blocks b }
     ensures { result ≡ may_name_all (B.held blocks.now).regs (colouring (B.held blocks.now)) strict (references_of (B.held blocks.now) b) }
 {
-    let mut rest = blocks.reference_byte(b) as u32;
+    let byte = blocks.reference_byte(b);
+    let mut rest = byte as u32;
     while rest != 0 {
         let t = u32::trailing_zeros(rest);
         if !may_name(blocks, strict, blocks.word(b, t)) {

@@ -25,7 +25,7 @@ pub loop-rest-smaller : goal.loop-rest-smaller
 loop-rest-smaller g c = lowest_less _ _ c.loop-rest.invariant.0 c.loop-rest-test.true refl
 
 pub loop-rest-init : goal.loop-rest-init
-loop-rest-init g c = (c.reference_byte-rest.type_inv, rw c.reference_byte-rest.ensures refl)
+loop-rest-init g c = (c.reference_byte-byte.type_inv, rw c.reference_byte-byte.ensures refl)
 
 pub loop-rest-preserved : goal.loop-rest-preserved
 loop-rest-preserved g c =
