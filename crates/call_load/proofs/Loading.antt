@@ -25,8 +25,8 @@ use Rattle.machine.proofs.Tests.{both_true, by_test, clash}
 use Rattle.machine.proofs.Images.{passes_fits, image_passes}
 use Rattle.machine.proofs.Frames.{colours_are, bytes_are, words_are, regs_placed, lengths_same, unframed_image}
 use Rattle.machine.proofs.Saving.{load_done}
-use Rattle.part_image_lists.specs.Laid.{Laid}
-use Rattle.part_image_lists.proofs.Laid.{laid_frame}
+use Rattle.part_image_audit.specs.Laid.{Laid}
+use Rattle.part_image_audit.proofs.Laid.{laid_frame}
 use Rattle.part_image_audit.proofs.Held.{held_most, held_as, held_laid}
 
 module _ {m : ℕ} {j : List ℕ} (l : Laid m j) {n : ℕ} {xs : List ℕ} where

@@ -7,7 +7,7 @@ ghost use Rattle.machine.specs.Heap.{heap};
 ghost use Rattle.machine.specs.Answers.{given};
 ghost use Rattle.machine.specs.Image.{colours_in, bytes_in, words_in};
 ghost use Rattle.machine.specs.Load.{load};
-ghost use Rattle.part_image_lists.specs.Laid.{Laid};
+ghost use Rattle.part_image_audit.specs.Laid.{Laid};
 
 use machine::{Outcome, Regs};
 

@@ -1,16 +1,22 @@
-// The audit's tests of a block's own values, wherever the block lies: in a heap's buffers or in an image.
+// A block wherever it lies, in a heap's buffers or in an image: what is read of it, its colour and state, and the audit's tests of its
+// own values.
 #![tactic(auto)]
 
-ghost use Rattle.std.specs.Prelude.{◌≡◌, Bool, false, ◌&&◌, List, ℕ, length};
+pub mod read; // read.rt: the trait that reads of a block
+
+ghost use Rattle.std.specs.Prelude.{◌≡◌, Bool, false, ◌&&◌, List, ℕ};
 ghost use Rattle.machine.specs.declared.Regs.{Regs};
 ghost use Rattle.machine.specs.declared.State.TheVariants.{Grey, Black, Free};
-ghost use Rattle.machine.specs.Block.{references};
+ghost use Rattle.machine.specs.WellFormed.{Block};
+ghost use Rattle.machine.specs.Block.{byte_of, eight_words, references};
 ghost use Rattle.machine.specs.Colouring.{Colouring, is_free};
-ghost use Rattle.machine.specs.State.{state_in};
-ghost use Rattle.machine.specs.Audit.{may_be_named, may_name_all, zero_from, state_passes, mark_passes};
+ghost use Rattle.machine.specs.Heap.{colouring, colour_of, references_of};
+ghost use Rattle.machine.specs.State.{state_of};
+ghost use Rattle.machine.specs.Audit.{may_be_named, may_name_all, zero_from, state_passes, mark_passes, block_passes};
 ghost use Rattle.part_block.specs.Asked.{answered};
 
-use machine::State;
+use machine::{Colour, State};
+use read::Blocks;
 
 // What is left to ask of a block: nothing, as it passes or fails; or what its references name, strictly or not.
 #[derive(Clone, Copy)]
@@ -19,6 +25,25 @@ pub enum Asked {
     Fails,
     Names,
     NamesStrictly,
+}
+
+// The colour of b, which is any number: outside the layout where b is no block.
+pub fn colour_of<B: Blocks>(blocks: &B, b: u32) -> Colour
+    ensures { result ≡ colour_of (B.held blocks.now) b }
+{
+    let m = blocks.registers().blocks;
+    if part_colours::is_block(m, b) {
+        return part_colours::colour(m, blocks.colour_word(b));
+    }
+    Colour::Outside
+}
+
+// The state of b, which is any number.
+pub fn state_of<B: Blocks>(blocks: &B, b: u32) -> State
+    ensures { result ≡ state_of (B.held blocks.now) b }
+{
+    let r = blocks.registers();
+    part_state::state_from(r.phase, r.position, b, colour_of(blocks, b))
 }
 
 // Whether a block in that state may be named: it is live, and where strict it is not white.
@@ -35,26 +60,24 @@ pub fn may_be_named(strict: bool, s: State) -> bool
     }
 }
 
-// Whether words 1 to 7 are 0.
-fn zeroes(part: &[u32]) -> bool
-    requires { length part.now ≡ 8 }
-    ensures { result ≡ zero_from 7 1 part.now }
+// Whether the words 1 to 7 of the block b are 0.
+fn zeroes<B: Blocks>(blocks: &B, b: u32) -> bool
+    requires { Block (B.held blocks.now).regs.blocks b }
+    ensures { result ≡ zero_from 7 1 (eight_words (B.held blocks.now).words b) }
 {
-    if (part[1] | part[2] | part[3]) != 0 {
+    if (blocks.word(b, 1) | blocks.word(b, 2) | blocks.word(b, 3)) != 0 {
         return false;
     }
-    (part[4] | part[5] | part[6] | part[7]) == 0
+    (blocks.word(b, 4) | blocks.word(b, 5) | blocks.word(b, 6) | blocks.word(b, 7)) == 0
 }
 
 // What is left to ask of a free block: its byte and its words 1 to 7 are 0, or it fails.
-fn ask_free(part: &[u32], byte: u8) -> Asked
-    requires { length part.now ≡ 8 }
-    ensures { (r : Regs) (k : Colouring) (b : ℕ) → answered result (λ strict. may_name_all r k strict (references part.now byte)) ≡ state_passes r k part.now byte b Free }
+fn ask_free<B: Blocks>(blocks: &B, b: u32) -> Asked
+    requires { Block (B.held blocks.now).regs.blocks b }
+    ensures { (r : Regs) (k : Colouring) → answered result (λ strict. may_name_all r k strict (references_of (B.held blocks.now) b)) ≡ state_passes r k (eight_words (B.held blocks.now).words b) (byte_of (B.held blocks.now).bytes b) b Free }
 {
-    if byte == 0 {
-        if zeroes(part) {
-            return Asked::Passes;
-        }
+    if blocks.reference_byte(b) == 0 && zeroes(blocks, b) {
+        return Asked::Passes;
     }
     Asked::Fails
 }
@@ -92,17 +115,18 @@ fn ask_used(mark: u32, b: u32, asked: Asked) -> Asked
     asked
 }
 
-// Of the block b in the state s, whose words are part and whose byte is byte.
-pub fn ask(phase: u32, position: u32, mark: u32, part: &[u32], byte: u8, b: u32, s: State) -> Asked
-    requires { length part.now ≡ 8 }
-    ensures { (r : Regs) (k : Colouring) → r.phase ≡ phase → r.position ≡ position → r.mark ≡ mark → s ≡ state_in r k b → answered result (λ strict. may_name_all r k strict (references part.now byte)) ≡ (mark_passes r k b && state_passes r k part.now byte b s) }
+// Of the block b.
+pub fn ask<B: Blocks>(blocks: &B, b: u32) -> Asked
+    requires { Block (B.held blocks.now).regs.blocks b }
+    ensures { answered result (λ strict. may_name_all (B.held blocks.now).regs (colouring (B.held blocks.now)) strict (references_of (B.held blocks.now) b)) ≡ block_passes (B.held blocks.now) b }
 {
-    match s {
-        State::LiveWhite => ask_used(mark, b, Asked::Names),
-        State::Doomed => ask_used(mark, b, Asked::Passes),
-        State::Grey => ask_used(mark, b, ask_grey(phase)),
-        State::Black => ask_used(mark, b, ask_black(phase, position, b)),
-        State::Free => ask_free(part, byte),
+    let r = blocks.registers();
+    match state_of(blocks, b) {
+        State::LiveWhite => ask_used(r.mark, b, Asked::Names),
+        State::Doomed => ask_used(r.mark, b, Asked::Passes),
+        State::Grey => ask_used(r.mark, b, ask_grey(r.phase)),
+        State::Black => ask_used(r.mark, b, ask_black(r.phase, r.position, b)),
+        State::Free => ask_free(blocks, b),
         State::Outside => Asked::Fails,
     }
 }

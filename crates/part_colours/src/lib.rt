@@ -2,8 +2,6 @@
 // this crate reads or writes a colour word; part_step::step is told one and knows its values.
 #![tactic(auto)]
 
-pub mod layout; // layout.rt: what the audit asks of the colours and of the grey list
-
 ghost use Rattle.std.specs.Prelude.{◌≡◌, ◌≢◌, ◌+◌, ◌%◌, ◌≤◌, length, ℕ, if◌then◌else◌};
 ghost use Rattle.machine.specs.WellFormed.{Block};
 ghost use Rattle.machine.specs.Block.{is_block};
@@ -118,14 +116,6 @@ pub fn free_at(m: u32, colours: &[u32], b: u32) -> bool
     ensures { (g : ℕ) → result ≡ is_free (coloured m g colours.now) b }
 {
     free_colour(colour_at(m, colours, b))
-}
-
-// Whether b, which is any number, is a free block.
-pub fn is_free(m: u32, colours: &[u32], b: u32) -> bool
-    requires { (m ≤ 16384) × CellsFit m colours.now }
-    ensures { (g : ℕ) → result ≡ is_free (coloured m g colours.now) b }
-{
-    free_colour(colour_of(m, colours, b))
 }
 
 // The block b goes to the front of the grey list that starts at head. Answers the head afterwards.

@@ -23,7 +23,7 @@ use Rattle.machine.proofs.Entering.{fits_lengths}
 use Rattle.machine.proofs.Refusals.{fits_most, unfit, illegal, entered}
 use Rattle.machine.proofs.Passing.{entry_no}
 use Rattle.machine.proofs.Frames.{blocks_frame, lengths_placed, framed_blocks, regs_placed}
-use Rattle.part_image_lists.specs.Laid.{Laid}
+use Rattle.part_image_audit.specs.Laid.{Laid}
 
 module _ (i : List ℕ) (f : framed i ≡ true) where
   abbrev j : List ℕ

@@ -1,5 +1,5 @@
 -- `call_load::read` meets its contract: the sections one by one. Assumes nothing.
-use Rattle.part_image_lists.proofs.Laid.{laid_length}
+use Rattle.part_image_audit.proofs.Laid.{laid_length}
 use Rattle.call_load.proofs.Loading.{words_read, colours_read, bytes_read}
 use borrow.Author.Rules.{rules}
 use Rattle.call_load.proofs.read.Goals as goal

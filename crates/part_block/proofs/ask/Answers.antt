@@ -1,40 +1,48 @@
 -- `part_block::ask` meets its contract: the state decides. Assumes nothing.
 use mathlib.Core.Path.{refl, sym, ap}
-use mathlib.Core.Bool.{and-false}
-use Rattle.machine.specs.Audit.{mark_passes}
-use Rattle.machine.proofs.Passing.{white_as, doomed_as, outside_off, free_state, free_state_lem, mark_free, mark_state}
+use Rattle.machine.specs.declared.Regs.{Regs}
+use Rattle.machine.specs.Heap.{colouring}
+use Rattle.machine.proofs.Passing.{white_as, doomed_as}
 use Rattle.part_block.specs.Asked.{answered}
+use Rattle.part_block.proofs.Asking.{used_as, free_as, outside_as}
 use Rattle.part_block.proofs.ask.Goals as goal
 
 pub returns-in-LiveWhite : goal.returns-in-LiveWhite
 unfolding answered
-returns-in-LiveWhite c =
-    let told = c.in-LiveWhite.is in
-    λ r k p q m i. mark_state r k _ _ _ told (c.ask_used.ensures r k _ m (free_state_lem r k _ i (ap free_state told))) (white_as r k _ _ _ _ refl)
+returns-in-LiveWhite g c =
+    let h = g.B.Blocks.held c.args.blocks.now in
+    let m = ap (λ (r : Regs). r.mark) (sym c.registers-r.ensures.told) in
+    used_as h c.args.b c.state_of.ensures c.in-LiveWhite.is refl (c.ask_used.ensures h.regs (colouring h) _ m) (white_as h.regs (colouring h) _ _ _ _ refl)
 
 pub returns-in-Doomed : goal.returns-in-Doomed
 unfolding answered
-returns-in-Doomed c =
-    let told = c.in-Doomed.is in
-    λ r k p q m i. mark_state r k _ _ _ told (c.ask_used-in-Doomed.ensures r k _ m (free_state_lem r k _ i (ap free_state told))) (doomed_as r k _ _ _)
+returns-in-Doomed g c =
+    let h = g.B.Blocks.held c.args.blocks.now in
+    let m = ap (λ (r : Regs). r.mark) (sym c.registers-r.ensures.told) in
+    used_as h c.args.b c.state_of.ensures c.in-Doomed.is refl (c.ask_used-in-Doomed.ensures h.regs (colouring h) _ m) (doomed_as h.regs (colouring h) _ _ _)
 
 pub returns-in-Grey : goal.returns-in-Grey
-returns-in-Grey c =
-    let told = c.in-Grey.is in
-    λ r k p q m i. mark_state r k _ _ _ told (c.ask_used-in-Grey.ensures r k _ m (free_state_lem r k _ i (ap free_state told))) (c.ask_grey.ensures r k _ _ _ p)
+returns-in-Grey g c =
+    let h = g.B.Blocks.held c.args.blocks.now in
+    let told = sym c.registers-r.ensures.told in
+    let m = ap (λ (r : Regs). r.mark) told in
+    let p = ap (λ (r : Regs). r.phase) told in
+    used_as h c.args.b c.state_of.ensures c.in-Grey.is refl (c.ask_used-in-Grey.ensures h.regs (colouring h) _ m) (c.ask_grey.ensures h.regs (colouring h) _ _ _ p)
 
 pub returns-in-Black : goal.returns-in-Black
-returns-in-Black c =
-    let told = c.in-Black.is in
-    λ r k p q m i. mark_state r k _ _ _ told (c.ask_used-in-Black.ensures r k _ m (free_state_lem r k _ i (ap free_state told))) (c.ask_black.ensures r k _ _ p q)
+returns-in-Black g c =
+    let h = g.B.Blocks.held c.args.blocks.now in
+    let told = sym c.registers-r.ensures.told in
+    let m = ap (λ (r : Regs). r.mark) told in
+    let p = ap (λ (r : Regs). r.phase) told in
+    let q = ap (λ (r : Regs). r.position) told in
+    used_as h c.args.b c.state_of.ensures c.in-Black.is refl (c.ask_used-in-Black.ensures h.regs (colouring h) _ m) (c.ask_black.ensures h.regs (colouring h) _ _ p q)
 
 pub returns-in-Free : goal.returns-in-Free
-returns-in-Free c =
-    let told = c.in-Free.is in
-    λ r k p q m i. mark_state r k _ _ _ told (mark_free r k _ _ (free_state_lem r k _ i (ap free_state told))) (c.ask_free.ensures r k _)
+returns-in-Free g c =
+    let h = g.B.Blocks.held c.args.blocks.now in
+    free_as h c.args.b c.state_of.ensures c.in-Free.is refl (c.ask_free.ensures h.regs (colouring h))
 
 pub returns-in-Outside : goal.returns-in-Outside
 unfolding answered
-returns-in-Outside c =
-    let told = c.in-Outside.is in
-    λ r k p q m i. mark_state r k _ _ _ told (sym (and-false (mark_passes r k _))) (outside_off r k _ _ _)
+returns-in-Outside g c = outside_as (g.B.Blocks.held c.args.blocks.now) c.args.b c.state_of.ensures c.in-Outside.is

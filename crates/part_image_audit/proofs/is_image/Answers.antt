@@ -14,5 +14,5 @@ returns-then-framed c =
     let byte = c.type_inv.image in
     c.passes.ensures ∙ framed_image i (so c.framed.ensures c.if-framed.true) (λ k. omega (arith, byte k))
 
-pub returns : goal.returns
-returns c = unframed_image _ (so c.framed.ensures c.if-framed.false)
+pub returns-else-framed : goal.returns-else-framed
+returns-else-framed c = c.if-framed.false ∙ unframed_image _ (so c.framed.ensures c.if-framed.false)

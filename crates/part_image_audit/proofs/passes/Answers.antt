@@ -16,8 +16,8 @@ pub number_at-requires-2 : goal.number_at-requires-2
 number_at-requires-2 c =
     let l = framed_least _ c.requires in search rules
 
-pub get_registers-r-requires : goal.get_registers-r-requires
-get_registers-r-requires c =
+pub get_registers-regs-requires : goal.get_registers-regs-requires
+get_registers-regs-requires c =
     let i = c.args.image.now in
     let f = c.requires in
     let n = held_numbers i f c.number_at.ensures c.number_at-2.ensures c.numbers_fit.ensures in
@@ -30,25 +30,28 @@ legal-requires c =
     let f = c.requires in
     let n = held_numbers i f c.number_at.ensures c.number_at-2.ensures c.numbers_fit.ensures in
     let h = so n c.if-numbers_fit.true in
-    (held_laid i f h c.get_registers-r.ensures refl).most
+    (held_laid i f h c.get_registers-regs.ensures refl).most
 
-pub behind_registers-requires : goal.behind_registers-requires
-behind_registers-requires c = framed_long _ c.requires
+pub behind_registers-sections-requires : goal.behind_registers-sections-requires
+behind_registers-sections-requires c = framed_long _ c.requires
 
-pub passes_after-requires : goal.passes_after-requires
-passes_after-requires c =
+pub invariant_of-passes : goal.invariant_of-passes
+invariant_of-passes c =
+    let i = c.args.image.now in
+    let f = c.requires in
+    let n = held_numbers i f c.number_at.ensures c.number_at-2.ensures c.numbers_fit.ensures in
+    let l = held_laid i f (so n c.if-numbers_fit.true) c.get_registers-regs.ensures c.behind_registers-sections.ensures in
+    record { most = l.most; whole = l.whole }
+
+pub returns-then-legal : goal.returns-then-legal
+returns-then-legal c =
     let i = c.args.image.now in
     let f = c.requires in
     let n = held_numbers i f c.number_at.ensures c.number_at-2.ensures c.numbers_fit.ensures in
     let h = so n c.if-numbers_fit.true in
-    let e = c.get_registers-r.ensures in
-    let p = c.behind_registers.ensures in
-    (held_laid i f h e p, held_entry i f h e p (so c.legal.ensures c.if-legal.true))
-
-pub returns-then-legal : goal.returns-then-legal
-returns-then-legal c =
-    let e = c.get_registers-r.ensures in
-    c.passes_after.ensures ∙ ap passes (held_as c.args.image.now c.requires e c.behind_registers.ensures)
+    let e = c.get_registers-regs.ensures in
+    let p = c.behind_registers-sections.ensures in
+    c.passes.ensures (held_entry i f h e p (so c.legal.ensures c.if-legal.true)) ∙ ap passes (held_as i f e p)
 
 pub returns-else-legal : goal.returns-else-legal
 returns-else-legal c =
@@ -56,7 +59,7 @@ returns-else-legal c =
     let f = c.requires in
     let n = held_numbers i f c.number_at.ensures c.number_at-2.ensures c.numbers_fit.ensures in
     let h = so n c.if-numbers_fit.true in
-    illegal_off _ h c.get_registers-r.ensures (so c.legal.ensures c.if-legal.false)
+    illegal_off _ h c.get_registers-regs.ensures (so c.legal.ensures c.if-legal.false)
 
 pub returns-else-numbers_fit : goal.returns-else-numbers_fit
 returns-else-numbers_fit c =

@@ -1,0 +1,40 @@
+// A heap's blocks as they lie in its lent buffers.
+ghost use Rattle.std.specs.Prelude.{◌≡◌, ◌≤◌, ◌*◌, length};
+ghost use Rattle.machine.specs.Heap.{heap};
+ghost use Rattle.machine.specs.Colouring.{CellsFit};
+
+use machine::Regs;
+use part_block::read::Blocks;
+
+// The registers, and buffers of the lengths that their M asks for.
+#[derive(Clone, Copy)]
+pub struct Lent<'a> {
+    pub regs: Regs,
+    pub words: &'a [u32],
+    pub colours: &'a [u32],
+    pub bytes: &'a [u8],
+    pub ghost most: { regs.blocks ≤ 16384 },
+    pub ghost words_fit: { length words.now ≡ 8 * regs.blocks },
+    pub ghost colours_fit: { CellsFit regs.blocks colours.now },
+    pub ghost bytes_fit: { length bytes.now ≡ regs.blocks },
+}
+
+impl<'a> Blocks for Lent<'a> {
+    ghost held = { λ s. heap s.regs s.words.now s.colours.now s.bytes.now };
+
+    fn registers(&self) -> Regs {
+        self.regs
+    }
+
+    fn colour_word(&self, b: u32) -> u32 {
+        part_colours::word_of(self.colours, b)
+    }
+
+    fn reference_byte(&self, b: u32) -> u8 {
+        self.bytes[b as usize - 2]
+    }
+
+    fn word(&self, b: u32, w: u32) -> u32 {
+        self.words[8 * (b as usize - 2) + w as usize]
+    }
+}

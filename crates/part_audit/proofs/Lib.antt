@@ -1,0 +1,2 @@
+-- Laws of the colours that are counted and walked along.
+pub mod Hues

@@ -1,0 +1,2 @@
+-- What the audit counts and walks along.
+pub mod Hues

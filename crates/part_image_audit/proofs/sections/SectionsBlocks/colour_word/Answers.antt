@@ -1,0 +1,15 @@
+-- `part_image_audit::sections::Sections::colour_word` meets its contract. Assumes nothing.
+use native.Mathlib.Omega.{arith}
+use Rattle.part_image_audit.proofs.Laid.{laid_length, colour_laid}
+use Rattle.part_image_audit.proofs.sections.SectionsBlocks.colour_word.Goals as goal
+
+pub number_at-requires : goal.number_at-requires
+number_at-requires c =
+    let s = c.args.self.now in
+    let l = laid_length {m = s.regs.blocks} {j = s.sections.now} (record { whole = s.whole; most = s.most }) in
+    omega arith
+
+pub returns : goal.returns
+returns c =
+    let s = c.args.self.now in
+    colour_laid {m = s.regs.blocks} {j = s.sections.now} (record { whole = s.whole; most = s.most }) c.requires c.number_at.ensures

@@ -1,0 +1,16 @@
+-- `part_image_audit::sections::Sections::reference_byte` meets its contract. Assumes nothing.
+use native.Mathlib.Omega.{arith}
+use Rattle.part_image_audit.proofs.Laid.{laid_length, byte_laid}
+use Rattle.part_image_audit.proofs.sections.SectionsBlocks.reference_byte.Goals as goal
+
+pub bounds-self-at : goal.bounds-self-at
+bounds-self-at c =
+    let s = c.args.self.now in
+    let l = laid_length {m = s.regs.blocks} {j = s.sections.now} (record { whole = s.whole; most = s.most }) in
+    let e = c.bytes_at-at.ensures in
+    omega arith
+
+pub returns : goal.returns
+returns c =
+    let s = c.args.self.now in
+    byte_laid {m = s.regs.blocks} {j = s.sections.now} (record { whole = s.whole; most = s.most }) c.requires c.bytes_at-at.ensures

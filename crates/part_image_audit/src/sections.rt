@@ -1,0 +1,39 @@
+// A heap's blocks as they lie in an image: in the sections behind its registers.
+ghost use Rattle.std.specs.Prelude.{◌≡◌, ◌≤◌, true};
+ghost use Rattle.machine.specs.Image.{heap_in};
+ghost use Rattle.machine.specs.Frame.{blocks_framed};
+
+use machine::Regs;
+use part_block::read::Blocks;
+use part_image::{frame, number_at};
+
+// The registers, and sections of the counts and the length that their M asks for.
+#[derive(Clone, Copy)]
+pub struct Sections<'a> {
+    pub regs: Regs,
+    pub sections: &'a [u8],
+    pub ghost most: { regs.blocks ≤ 16384 },
+    pub ghost whole: { blocks_framed regs.blocks sections.now ≡ true },
+}
+
+impl<'a> Blocks for Sections<'a> {
+    ghost held = { λ s. heap_in s.regs s.sections.now };
+
+    fn registers(&self) -> Regs {
+        self.regs
+    }
+
+    fn colour_word(&self, b: u32) -> u32 {
+        number_at(self.sections, 4 + 4 * (b as usize - 2))
+    }
+
+    fn reference_byte(&self, b: u32) -> u8 {
+        let at = frame::bytes_at(self.regs.blocks as usize) + 4;
+        self.sections[at + (b as usize - 2)]
+    }
+
+    fn word(&self, b: u32, w: u32) -> u32 {
+        let at = frame::words_at(self.regs.blocks as usize) + 4;
+        number_at(self.sections, at + 32 * (b as usize - 2) + 4 * w as usize)
+    }
+}

@@ -1,2 +1,0 @@
--- Laws of bytes laid out as an image.
-pub mod Laid
