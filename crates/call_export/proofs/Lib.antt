@@ -1,5 +1,4 @@
 -- What is proved of the export's definition, and the functions' proofs.
-pub mod Rows
 pub mod Steps
 pub mod Meaning
 pub mod NoSecond

@@ -4,11 +4,11 @@
 --     export b w h out     the export
 --     export_numbers b w h out     the same, with its answer in numbers
 -- Assumes nothing.
-use Rattle.std.specs.Prelude.{ℕ, List}
+use Rattle.std.specs.Prelude.{ℕ, List, Result}
 use Rattle.machine.specs.Block.{eight_words}
 use Rattle.machine.specs.Heap.{Heap}
 use Rattle.machine.specs.Read.{read}
-use Rattle.part_rows.specs.declared.Followed.{Followed}
+use Rattle.part_rows.specs.declared.Reason.{Reason}
 use Rattle.part_rows.specs.Shape.{Shape}
 use Rattle.part_rows.specs.Rows.{ExportGiven, lead, export_rows}
 use Rattle.part_rows.specs.Numbers.{NumbersGiven, in_numbers}
@@ -22,7 +22,7 @@ block_rows w h =
       row = λ b. eight_words h.words b;
     }
 
-abbrev pub follow : ℕ → ℕ → Heap → Followed
+abbrev pub follow : ℕ → ℕ → Heap → Result ℕ Reason
 follow b w h = lead (block_rows w h) b
 
 abbrev pub export : ℕ → ℕ → Heap → List ℕ → ExportGiven

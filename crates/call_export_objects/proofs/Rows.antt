@@ -1,7 +1,6 @@
 -- A row that is refused nothing: its blocks, and its words.
 --     row_chained              its blocks are within the words
 --     row_words                the words of its blocks are its fields
---     row_written              a row written is the row of the definition
 -- Assumes nothing.
 use Prim.Native.Nat.{ℕ, zero, suc, ◌+◌, ◌-◌, ◌*◌, ◌/◌, ◌%◌, ◌≤◌, ◌<◌}
 use mathlib.Core.Path.{◌≡◌, refl, sym, ◌∙◌, ap, subst}
@@ -22,12 +21,10 @@ use Rattle.machine.specs.Ready.{Ready}
 use Rattle.machine.specs.WellFormed.{Block}
 use Rattle.machine.proofs.Entering.{first_zero, entry_ready}
 use Rattle.machine.proofs.Fields.{link_zero, field_zero}
-use Rattle.part_rows.specs.Rows.{with_row}
 use Rattle.part_copy.specs.Chains.{Within, Chained, last, more, chain_words}
 use Rattle.part_copy.proofs.Copies.{chained_first, chained_rest}
 use Rattle.call_export_objects.specs.Objects.{fields_from, fields_of}
 use Rattle.call_export_objects.proofs.Walks.{block_splits, row_field}
-use Rattle.call_export_objects.proofs.Steps.{fields_length}
 
 module _ (h : Heap) where
   within : Ready h → (b : ℕ) → Block h.regs.blocks b → Within b h.words
@@ -106,8 +103,3 @@ module _ (h : Heap) where
   pub row_words : (b n : ℕ) → 1 ≤ n → n ≤ 1792 → field_refusal b (n - 1) h ≡ 0 → chain_words ((n - 1) / 7) n b h.words ≡ fields_of n b h
   unfolding field_block
   row_words b n o m z = chain_fields b n m z ((n - 1) / 7) n 0 (row_chained b n z) (omega arith) (omega arith) (omega arith)
-
-  pub row_written : (b n at : ℕ) (out out' : List ℕ) → 1 ≤ n → n ≤ 1792 → field_refusal b (n - 1) h ≡ 0
-      → out' ≡ take at out ++ (chain_words ((n - 1) / 7) n b h.words ++ drop (at + n) out) → out' ≡ with_row at (fields_of n b h) out
-  unfolding with_row
-  row_written b n at out out' o m z e = e ∙ (rw (row_words b n o m z, fields_length n 0 b h) refl)

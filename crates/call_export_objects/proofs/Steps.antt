@@ -17,6 +17,7 @@ use native.Mathlib.Omega.{arith}
 use lib.Dec.{leb, ltb}
 use lib.ListN.{length}
 use borrow.Author.Tests.{eq-eqb, ne_eqb, leb-true, leb-false, ltb-true, le-leb, lt-leb, lt-ltb, le-ltb}
+use Rattle.std.specs.Prelude.{Ok, Err, IsOk, is_ok}
 use Rattle.machine.specs.Tests.{◌▷◌}
 use Rattle.machine.specs.Block.{word_of, byte_of, bit}
 use Rattle.machine.specs.Heap.{Heap}
@@ -31,8 +32,6 @@ use Rattle.machine.proofs.Refusals.{Readable, stops, passes}
 use Rattle.machine.proofs.Reading.{word_reference, word_number}
 use Rattle.machine.proofs.Fields.{field_readable, field_zero}
 use Rattle.part_rows.specs.declared.Reason.TheVariants.{Refused, NoReference}
-use Rattle.part_rows.specs.declared.Followed.{Followed}
-use Rattle.part_rows.specs.declared.Followed.TheVariants.{To, Nowhere}
 use Rattle.part_rows.specs.Shape.{Sound}
 use Rattle.part_rows.specs.Rows.{followed, lead, stopped, export_rows}
 use Rattle.part_rows.proofs.Steps.{followed_refused}
@@ -109,7 +108,7 @@ module _ (h : Heap) (b n link : ℕ) (d : row_fits n link ≡ true) where
       let y = row_field h b n link r.among r.most z in
       rw row_as (simp (eq-eqb (field_refusal b (n - 1) h) 0 z, eq-eqb (field_refusal b link h) 0 y))
 
-  pub follow_refused : {x : ℕ} → x ≡ field_refusal b (n - 1) h → x ≢ 0 → Nowhere (Refused x) ≡ lead (object_rows n link h) b
+  pub follow_refused : {x : ℕ} → x ≡ field_refusal b (n - 1) h → x ≢ 0 → Err (Refused x) ≡ lead (object_rows n link h) b
   follow_refused e z =
       let q = link_refused (λ y. z (e ∙ y)) in
       sym (followed_refused (link_of n link b h) z (rw q (sym e)))
@@ -118,19 +117,19 @@ module _ (h : Heap) (b n link : ℕ) (d : row_fits n link ≡ true) where
     pub link_readable : Readable h at (link % 7)
     link_readable = let r = fits_range n link d in field_readable h b link at f (row_field h b n link r.among r.most z)
 
-    pub follow_on : bit (byte_of h.bytes at) (link % 7) ≡ true → To (word_of h.words at (link % 7)) ≡ lead (object_rows n link h) b
+    pub follow_on : bit (byte_of h.bytes at) (link % 7) ≡ true → Ok (word_of h.words at (link % 7)) ≡ lead (object_rows n link h) b
     unfolding followed
     follow_on t = rw (link_passed z, ← f, ← word_reference h at (link % 7) t) refl
 
-    pub follow_number : bit (byte_of h.bytes at) (link % 7) ≡ false → Nowhere NoReference ≡ lead (object_rows n link h) b
+    pub follow_number : bit (byte_of h.bytes at) (link % 7) ≡ false → Err NoReference ≡ lead (object_rows n link h) b
     unfolding followed
     follow_number t = rw (link_passed z, ← f, ← word_number h at (link % 7) t) refl
 
   pub link_zero : (link_of n link b h).refusal ≡ 0 → field_refusal b (n - 1) h ≡ 0
   link_zero e = by_eq (field_refusal b (n - 1) h) 0 (λ z. z) (λ z. rw (link_refused z) at e)
 
-  pub follow_zero : {f : Followed} {x : ℕ} → f ≡ lead (object_rows n link h) b → f ≡ To x → field_refusal b (n - 1) h ≡ 0
-  follow_zero p q = by_eq (field_refusal b (n - 1) h) 0 (λ z. z) (λ z. let g = follow_refused refl z in absurd (never (cc)))
+  pub follow_zero : IsOk (lead (object_rows n link h) b) → field_refusal b (n - 1) h ≡ 0
+  follow_zero f = by_eq (field_refusal b (n - 1) h) 0 (λ z. z) (λ z. let g = ap is_ok (follow_refused refl z) in absurd (never (cc)))
 
   pub row_block : field_refusal b (n - 1) h ≡ 0 → Block h.regs.blocks b
   unfolding field_refusal

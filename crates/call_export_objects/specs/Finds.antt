@@ -1,9 +1,9 @@
 -- What is found on the way to a field.
---     Finds x n b          x is the refusal number n, or where n is 0 the block b
+--     found n b            refused by n, or where n is 0 the block b
 -- Assumes nothing.
-use Rattle.std.specs.Prelude.{ℕ, ◌≡◌}
-use Rattle.call_export_objects.specs.declared.Found.{Found}
+use Rattle.std.specs.Prelude.{ℕ, Result, Ok, Err, eqb, if◌then◌else◌}
+use Rattle.part_rows.specs.declared.Reason.{Reason}
+use Rattle.part_rows.specs.declared.Reason.TheVariants.{Refused}
 
-pub record Finds (x : Found) (n b : ℕ) : Type 0 where
-  pub refusal : x.refusal ≡ n
-  pub block : n ≡ 0 → x.block ≡ b
+unfoldable pub found : ℕ → ℕ → Result ℕ Reason
+found n b = if eqb n 0 then Ok b else Err (Refused n)

@@ -2,25 +2,18 @@
 // A row is an object's first fields; the list goes on by the reference in one of them, and 0 ends it.
 #![tactic(auto)]
 
-ghost use Rattle.std.specs.Prelude.{◌≡◌, true, not, ◌-◌, ◌/◌};
+ghost use Rattle.std.specs.Prelude.{◌≡◌, ◌≢◌, true, not, ◌-◌, ◌/◌, MatchResult};
 ghost use Rattle.machine.specs.WellFormed.{Block};
 ghost use Rattle.machine.specs.Heap.{heap};
 ghost use Rattle.machine.specs.Ready.{Ready};
 ghost use Rattle.machine.specs.Entry.{entry};
 ghost use Rattle.machine.specs.Field.{field_block, walk_refusal, field_refusal};
-ghost use Rattle.call_export_objects.specs.Finds.{Finds};
-ghost use Rattle.part_rows.specs.Rows.{lead};
+ghost use Rattle.part_rows.specs.declared.Reason.TheVariants.{Refused};
+ghost use Rattle.call_export_objects.specs.Finds.{found};
 ghost use Rattle.call_export_objects.specs.Objects.{object_rows, row_fits, export_objects, export_objects_numbers};
 
 use machine::Regs;
-use part_rows::{ExportAnswer, Exported, Followed, Reason};
-
-// What a walk found: the refusal number, or 0 and the block.
-#[derive(Clone, Copy)]
-struct Found {
-    refusal: u32,
-    block: u32,
-}
+use part_rows::{ExportAnswer, Reason, Rows, Stopped};
 
 // The most fields that an object has.
 pub const MOST_FIELDS: u32 = 1_792;
@@ -35,88 +28,85 @@ fn out_of_range(fields: u32, link: u32) -> bool
     true
 }
 
-// Refused by n, and no block.
-fn none(n: u32) -> Found
-    ensures { result ≡ (record { refusal = n; block = 0 }) }
+// Goes on where the refusal number n is 0.
+fn passed(n: u32) -> Result<(), Reason>
+    ensures { MatchResult result (λ _. n ≡ 0) (λ reason. (reason ≡ Refused n) × (n ≢ 0)) }
 {
-    Found {
-        refusal: n,
-        block: 0,
+    if n == 0 {
+        Ok(())
+    } else {
+        Err(Reason::Refused(n))
     }
 }
 
-// The block that so many links lead to from the block b on, or the first refusal on the way.
-fn walk(r: Regs, words: &[u32], colours: &[u32], bytes: &[u8], b: u32, links: u32) -> Found
-    requires { Ready (heap r words.now colours.now bytes.now) × Block r.blocks b }
-    ensures { Finds result (walk_refusal links b (heap r words.now colours.now bytes.now)) (field_block links b (heap r words.now colours.now bytes.now)) }
-{
-    let x = part_field::walk(r, words, colours, bytes, b, links);
-    let d = part_field::walk_refusal(r, words, colours, bytes, x);
-    Found {
-        refusal: d,
-        block: x.block,
-    }
-}
-
-// The first refusal of the row that begins at the block b, or 0 and the block of its link; e is refusal 1, 2 or 0, the same for
-// all rows. The walk to the link's block goes on from there to the last block.
-fn find(
-    e: u32,
-    r: Regs,
-    words: &[u32],
-    colours: &[u32],
-    bytes: &[u8],
-    b: u32,
+// The rows of a list of objects: the heap, how many fields a row has and which is its link, and the heap's refusal 1, 2 or 0, the same
+// for all rows.
+#[derive(Clone, Copy)]
+struct Objects<'a> {
+    regs: Regs,
+    words: &'a [u32],
+    colours: &'a [u32],
+    bytes: &'a [u8],
     fields: u32,
     link: u32,
-) -> Found
-    requires { (e ≡ entry (heap r words.now colours.now bytes.now)) × (row_fits fields link ≡ true) }
-    ensures { Finds result (field_refusal b (fields - 1) (heap r words.now colours.now bytes.now)) (field_block (link / 7) b (heap r words.now colours.now bytes.now)) }
-{
-    if e != 0 {
-        return none(e);
+    refusal: u32,
+    ghost in_range: { row_fits fields link ≡ true },
+    ghost entered: { refusal ≡ entry (heap regs words.now colours.now bytes.now) },
+}
+
+impl<'a> Objects<'a> {
+    ghost use Rattle.call_export_objects.specs.Lent.{lent};
+
+    // The block that so many links lead to from the block b on, or the first refusal on the way.
+    fn walk(&self, b: u32, links: u32) -> Result<u32, Reason>
+        requires { Ready (lent self.now) × Block self.now.regs.blocks b }
+        ensures { result ≡ found (walk_refusal links b (lent self.now)) (field_block links b (lent self.now)) }
+    {
+        let x = part_field::walk(self.regs, self.words, self.colours, self.bytes, b, links);
+        passed(part_field::walk_refusal(self.regs, self.words, self.colours, self.bytes, x))?;
+        Ok(x.block)
     }
-    let p = part_field::field_place(r.blocks, b, fields - 1);
-    if p != 0 {
-        return none(p);
-    }
-    let f = walk(r, words, colours, bytes, b, link / machine::FIELDS);
-    if f.refusal != 0 {
-        return none(f.refusal);
-    }
-    let rest = (fields - 1) / machine::FIELDS - link / machine::FIELDS;
-    let last = walk(r, words, colours, bytes, f.block, rest);
-    Found {
-        refusal: last.refusal,
-        block: f.block,
+
+    // The block of the link of the row that begins at the block b, or the first refusal of that row. The walk to the link's block goes
+    // on from there to the last block.
+    fn find(&self, b: u32) -> Result<u32, Reason>
+        ensures { result ≡ found (field_refusal b (self.now.fields - 1) (lent self.now)) (field_block (self.now.link / 7) b (lent self.now)) }
+    {
+        passed(self.refusal)?;
+        passed(part_field::field_place(self.regs.blocks, b, self.fields - 1))?;
+        let at = self.walk(b, self.link / machine::FIELDS)?;
+        let rest = (self.fields - 1) / machine::FIELDS - self.link / machine::FIELDS;
+        self.walk(at, rest)?;
+        Ok(at)
     }
 }
 
-// What the row that begins at the block b leads to.
-fn follow(
-    e: u32,
-    r: Regs,
-    words: &[u32],
-    colours: &[u32],
-    bytes: &[u8],
-    b: u32,
-    fields: u32,
-    link: u32,
-) -> Followed
-    requires { (e ≡ entry (heap r words.now colours.now bytes.now)) × (row_fits fields link ≡ true) }
-    ensures { result ≡ lead (object_rows fields link (heap r words.now colours.now bytes.now)) b }
-{
-    let f = find(e, r, words, colours, bytes, b, fields, link);
-    if f.refusal != 0 {
-        return Followed::Nowhere(Reason::Refused(f.refusal));
+impl<'a> Rows for Objects<'a> {
+    ghost use Rattle.call_export_objects.specs.Lent.{lent};
+
+    ghost shape = { λ it. object_rows it.fields it.link (lent it) };
+
+    fn width(&self) -> usize {
+        self.fields as usize
     }
-    let at = f.block as usize - 2;
-    let w = (link % machine::FIELDS) as usize;
-    if part_cells::bit(bytes[at], w) {
-        let next = words[8 * at + w];
-        return Followed::To(next);
+
+    fn most(&self) -> u32 {
+        self.regs.blocks
     }
-    Followed::Nowhere(Reason::NoReference)
+
+    fn follow(&self, b: u32) -> Result<u32, Reason> {
+        let block = self.find(b)?;
+        let at = block as usize - 2;
+        let w = (self.link % machine::FIELDS) as usize;
+        if part_cells::bit(self.bytes[at], w) {
+            return Ok(self.words[8 * at + w]);
+        }
+        Err(Reason::NoReference)
+    }
+
+    fn write(&self, b: u32, row: &mut [u32]) {
+        part_copy::write_row(self.words, row, b);
+    }
 }
 
 // Export: the rows of the list that starts at the object start, where 0 is the empty list, and goes on by the reference in
@@ -130,36 +120,23 @@ pub fn export_objects(
     start: u32,
     fields: u32,
     link: u32,
-) -> Exported
+) -> Result<u32, Stopped>
     ensures { (record { answer = result; out = out.new })
         ≡ export_objects start fields link (heap r words.now colours.now bytes.now) out.old }
 {
     if out_of_range(fields, link) {
-        return Exported::Stopped(0, Reason::Refused(machine::NO_PLACE));
+        return Err(Reason::Refused(machine::NO_PLACE).after(0));
     }
-    let e = part_checks::entry(r, words, colours, bytes);
-    let mut b = start;
-    let mut n: u32 = 0;
-    let mut at: usize = 0;
-    while b != 0 {
-        if n == r.blocks {
-            return Exported::Stopped(n, Reason::Circle);
-        }
-        if out.len() - at < fields as usize {
-            return Exported::Stopped(n, Reason::NoRoom);
-        }
-        let f = follow(e, r, words, colours, bytes, b, fields, link);
-        match f {
-            Followed::Nowhere(reason) => return Exported::Stopped(n, reason),
-            Followed::To(next) => {
-                part_copy::write_row(words, out, b, at, fields);
-                b = next;
-                n += 1;
-                at += fields as usize;
-            }
-        }
-    }
-    Exported::Complete(n)
+    let rows = Objects {
+        regs: r,
+        words,
+        colours,
+        bytes,
+        fields,
+        link,
+        refusal: part_checks::entry(r, words, colours, bytes),
+    };
+    part_rows::export_rows(&rows, start, out)
 }
 
 // The export, with its answer in numbers.
@@ -176,5 +153,5 @@ pub fn export_objects_numbers(
     ensures { (record { answer = result; out = out.new })
         ≡ export_objects_numbers start fields link (heap r words.now colours.now bytes.now) out.old }
 {
-    part_rows::numbers_of(export_objects(r, words, colours, bytes, out, start, fields, link))
+    ExportAnswer::from(export_objects(r, words, colours, bytes, out, start, fields, link))
 }

@@ -17,11 +17,10 @@ use Rattle.machine.proofs.Steps.{never}
 use borrow.Author.Tests.{ltb-true, ltb-false}
 use Rattle.part_rows.specs.declared.Reason.{Reason}
 use Rattle.part_rows.specs.declared.Reason.TheVariants.{Refused, NoReference}
-use Rattle.part_rows.specs.declared.Exported.TheVariants.{Complete, Stopped}
-use Rattle.part_rows.specs.declared.Followed.{Followed}
-use Rattle.part_rows.specs.declared.Followed.TheVariants.{To, Nowhere}
+use Rattle.part_rows.specs.declared.Stopped.{Stopped}
+use Rattle.std.specs.Prelude.{Result, Ok, Err}
 use Rattle.part_rows.specs.Shape.{Shape, Sound}
-use Rattle.part_rows.specs.Rows.{ExportGiven, complete, stopped, lead, with_row, export_from, export_rows}
+use Rattle.part_rows.specs.Rows.{ExportGiven, complete, off, stopped, lead, with_row, export_from, export_rows}
 use Rattle.part_rows.specs.Lists.{Leads, Along, here, past, rows_of}
 use Rattle.part_rows.specs.Meaning.{Completes, Halts, circle, full, refused, number, Stops, ExportMeans}
 use Rattle.part_rows.proofs.Steps.{followed_to, followed_refused, followed_number, export_whole, export_end, export_circle, export_full, export_off}
@@ -41,7 +40,7 @@ record Way (s : Shape) (b n room : ℕ) : Type 0 where
 
 module _ (s : Shape) where
   -- what reading a row says where its link leads nowhere
-  stuck : (b n room : ℕ) {r : Reason} → n < s.most → s.width * n + s.width ≤ room → lead s b ≡ Nowhere r → Halts s b n room r
+  stuck : (b n room : ℕ) {r : Reason} → n < s.most → s.width * n + s.width ≤ room → lead s b ≡ Err r → Halts s b n room r
   stuck b n room {r} l g e =
       by_eq (s.link b).refusal 0
       (λ z. by_eq (s.link b).reference 1
@@ -75,9 +74,9 @@ module _ (s : Shape) where
         (λ t. short b n (omega arith) g (halts z (full (omega arith) (ltb-true room (s.width * n + s.width) t))))
         (λ t. let l = ltb-false room (s.width * n + s.width) t in go z l (λ next. way k (n + 1) next (omega arith) (omega arith)) (lead s b) refl))
       where
-        go : b ≢ 0 → s.width * n + s.width ≤ room → ((next : ℕ) → Way s next (n + 1) room) → (f : Followed) → lead s b ≡ f → Way s b n room
-        go z l on (To next) q = longer (lead_leads q) (on next)
-        go z l on (Nowhere r) q = short b n (omega arith) g (halts z (stuck b n room (omega arith) l q))
+        go : b ≢ 0 → s.width * n + s.width ≤ room → ((next : ℕ) → Way s next (n + 1) room) → (f : Result ℕ Reason) → lead s b ≡ f → Way s b n room
+        go z l on (Ok next) q = longer (lead_leads q) (on next)
+        go z l on (Err r) q = short b n (omega arith) g (halts z (stuck b n room (omega arith) l q))
 
   halts_stop : (at n : ℕ) (out : List ℕ) {r : Reason} → at ≢ 0 → Halts s at n (length out) r → stopped n r out ≡ export_from s (s.most - n) n at out
   halts_stop at n out z (circle e) = export_circle s out _ n at e z
@@ -111,11 +110,17 @@ module _ {s : Shape} (d : Sound s) (b : ℕ) (out : List ℕ) {bs : List ℕ} {a
   ended_stopped : {r : Reason} → at ≢ 0 → Halts s at (length bs) (length out) r → export_rows s b out ≡ stopped (length bs) r (rows_of s bs ++ drop (s.width * length bs) out)
   ended_stopped {r} z q = reached ∙ sym (halts_stop s at (length bs) gone z (rw gone_length q)) ∙ ap (stopped (length bs) r) gone_is
 
+off_same : {n m : ℕ} {r t : Reason} → off n r ≡ off m t → (n ≡ m) × (r ≡ t)
+off_same e = let q = same e in (ap (λ (s : Stopped). s.rows) q, ap (λ (s : Stopped). s.reason) q)
+  where
+    same : {s t : Stopped} → ◌≡◌ {A = Result ℕ Stopped} (Err s) (Err t) → s ≡ t
+    same e = cc
+
 module _ {s : Shape} (d : Sound s) (b : ℕ) (out : List ℕ) where
   the_way : Way s b 0 (length out)
   the_way = way s (length out) s.most 0 b (omega arith) (omega arith)
 
-  completes : (n : ℕ) → (export_rows s b out).answer ≡ Complete n → Completes s b n out
+  completes : (n : ℕ) → (export_rows s b out).answer ≡ Ok n → Completes s b n out
   completes n e = go v.ending
     where
       v : Way s b 0 (length out)
@@ -133,7 +138,7 @@ module _ {s : Shape} (d : Sound s) (b : ℕ) (out : List ℕ) where
           let p = ap (λ (g : ExportGiven). g.answer) (ended_stopped d b out v.along (rw o at v.few) (rw o at v.fits) z (rw o at q)) in
           never (cc)
 
-  stops : (n : ℕ) (r : Reason) → (export_rows s b out).answer ≡ Stopped n r → Stops s b n r out
+  stops : (n : ℕ) (r : Reason) → (export_rows s b out).answer ≡ off n r → Stops s b n r out
   stops n r e = go v.ending
     where
       v : Way s b 0 (length out)
@@ -149,8 +154,7 @@ module _ {s : Shape} (d : Sound s) (b : ℕ) (out : List ℕ) where
       go (halts {r = t} z q) =
           let q' = rw o at q in
           let p = ap (λ (g : ExportGiven). g.answer) (ended_stopped d b out v.along (rw o at v.few) (rw o at v.fits) z q') in
-          let m : length v.blocks ≡ n = cc in
-          let u : t ≡ r = cc in
+          let (m, u) = off_same (sym p ∙ e) in
           record { blocks = v.blocks; at = v.at; along = v.along; more = z; many = m; few = rw (o, m) at v.few; room = rw (o, m) at v.fits; why = rw (m, u) at q' }
 
   pub given_complete : {n : ℕ} (c : Completes s b n out) → export_rows s b out ≡ complete n (rows_of s c.blocks ++ drop (s.width * n) out)

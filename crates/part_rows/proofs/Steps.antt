@@ -2,6 +2,7 @@
 --     followed_to, followed_refused, followed_number     the three ways of followed.     to_followed    what a link that leads on says
 --     export_whole         an export at its start
 --     export_end, export_circle, export_full, export_off, export_on     the ways of export_from, where n of m rows are written
+--     Going                what an export's loop keeps
 --     numbers_as           an export with its answer in numbers
 --     same_given, same_numbers     no second outcome is what an export gives: two things equal to a third are equal
 -- Assumes nothing.
@@ -9,6 +10,7 @@ use Prim.Native.Nat.{ℕ, zero, suc, ◌+◌, ◌-◌, ◌*◌, ◌≤◌, ◌<�
 use mathlib.Core.Path.{◌≡◌, refl, sym, ◌∙◌, ap}
 use mathlib.Core.Logic.{◌≢◌}
 use mathlib.Core.List.{List}
+use Rattle.std.specs.Prelude.{Result, Ok, Err, MatchResult, IsErrAnd}
 use native.Mathlib.Omega.{arith}
 use lib.ListN.{length}
 use borrow.Author.Tests.{eq-eqb, ne_eqb, lt-ltb, le-ltb}
@@ -17,28 +19,26 @@ use Rattle.machine.proofs.Tests.{by_eq}
 use Rattle.machine.proofs.Steps.{never}
 use Rattle.part_rows.specs.declared.Reason.{Reason}
 use Rattle.part_rows.specs.declared.Reason.TheVariants.{Circle, NoRoom, Refused, NoReference}
-use Rattle.part_rows.specs.declared.Followed.{Followed}
-use Rattle.part_rows.specs.declared.Followed.TheVariants.{To, Nowhere}
-use Rattle.part_rows.specs.declared.Exported.{Exported}
+use Rattle.part_rows.specs.declared.Stopped.{Stopped}
 use Rattle.part_rows.specs.declared.ExportAnswer.{ExportAnswer}
 use Rattle.part_rows.specs.Shape.{Shape}
 use Rattle.part_rows.specs.Numbers.{numbers_of, NumbersGiven, in_numbers}
 use Rattle.part_rows.specs.Rows.{ExportGiven, complete, stopped, followed, lead, with_row, onward, export_from, export_rows}
 
 module _ (a : ReadAnswer) where
-  pub followed_to : {x : ℕ} → a.refusal ≡ 0 → a.reference ≡ 1 → a.value ≡ x → followed a ≡ To x
+  pub followed_to : {x : ℕ} → a.refusal ≡ 0 → a.reference ≡ 1 → a.value ≡ x → followed a ≡ Ok x
   unfolding followed
   followed_to z o v = simp (eq-eqb a.refusal 0 z, eq-eqb a.reference 1 o, v)
 
-  pub followed_refused : {e : ℕ} → e ≢ 0 → a.refusal ≡ e → followed a ≡ Nowhere (Refused e)
+  pub followed_refused : {e : ℕ} → e ≢ 0 → a.refusal ≡ e → followed a ≡ Err (Refused e)
   unfolding followed
   followed_refused {e} z q = rw q (simp (ne_eqb e 0 z))
 
-  pub followed_number : a.refusal ≡ 0 → a.reference ≢ 1 → followed a ≡ Nowhere NoReference
+  pub followed_number : a.refusal ≡ 0 → a.reference ≢ 1 → followed a ≡ Err NoReference
   unfolding followed
   followed_number z o = simp (eq-eqb a.refusal 0 z, ne_eqb a.reference 1 o)
 
-  pub to_followed : {x : ℕ} → followed a ≡ To x → (a.refusal ≡ 0) × (a.reference ≡ 1) × (a.value ≡ x)
+  pub to_followed : {x : ℕ} → followed a ≡ Ok x → (a.refusal ≡ 0) × (a.reference ≡ 1) × (a.value ≡ x)
   to_followed e =
       by_eq a.refusal 0
       (λ z. by_eq a.reference 1
@@ -69,22 +69,49 @@ module _ (s : Shape) where
       unfolding export_from
       export_full l = rw fuel (simp (ne_eqb b 0 some, lt-ltb (length out) (s.width * n + s.width) l))
 
-      module _ (room : s.width * n + s.width ≤ length out) {f : Followed} (e : f ≡ lead s b) where
-        pub export_off : {r : Reason} → f ≡ Nowhere r → stopped n r out ≡ export_from s (m - n) n b out
+      module _ (room : s.width * n + s.width ≤ length out) {f : Result ℕ Reason} (e : f ≡ lead s b) where
+        pub export_off : {r : Reason} → f ≡ Err r → stopped n r out ≡ export_from s (m - n) n b out
         unfolding export_from onward
         export_off q = rw fuel (simp (ne_eqb b 0 some, le-ltb (length out) (s.width * n + s.width) room, ← e, q))
 
-        pub export_on : {next : ℕ} {out' : List ℕ} → f ≡ To next → out' ≡ with_row (s.width * n) (s.row b) out
+        pub export_on : {next : ℕ} {out' : List ℕ} → f ≡ Ok next → out' ≡ with_row (s.width * n) (s.row b) out
             → export_from s (m - n) n b out ≡ export_from s (m - (n + 1)) (n + 1) next out'
         unfolding export_from onward
         export_on q o = rw fuel (simp (ne_eqb b 0 some, le-ltb (length out) (s.width * n + s.width) room, ← e, q, o))
 
-pub numbers_as : {g : ExportGiven} {a : ExportAnswer} {x : Exported} {out : List ℕ}
+-- the loop: n rows of the export from start are written, up to the word at, and b is the next
+pub record Going (s : Shape) (start : ℕ) (before : List ℕ) (n b at : ℕ) (out : List ℕ) : Type 0 where
+  pub place : at ≡ s.width * n
+  pub within : at ≤ length out
+  pub few : n ≤ s.most
+  pub whole : export_rows s start before ≡ export_from s (s.most - n) n b out
+
+-- x is f, its error turned by g
+abbrev pub Turned : {T E D : Type 0} → (E → D) → Result T E → Result T D → Type 0
+Turned g f x = MatchResult f (λ y. x ≡ Ok y) (λ e. IsErrAnd x (λ d. d ≡ g e))
+
+pub record Turns {T E D : Type 0} (g : E → D) (f : Result T E) (d : D) : Type 0 where
+  pub error : E
+  pub was : f ≡ Err error
+  pub is : d ≡ g error
+
+module _ {T E D : Type 0} (g : E → D) where
+  pub turned_ok : (f : Result T E) (x : Result T D) → Turned g f x → {y : T} → x ≡ Ok y → f ≡ Ok y
+  turned_ok (Ok a) x t q = cc
+  turned_ok (Err a) (Ok b) t q = absurd t
+  turned_ok (Err a) (Err b) t q = cc
+
+  pub turned_err : (f : Result T E) (x : Result T D) → Turned g f x → {d : D} → x ≡ Err d → Turns g f d
+  turned_err (Ok a) x t q = cc
+  turned_err (Err a) (Ok b) t q = absurd t
+  turned_err (Err a) (Err b) t q = record { error = a; was = refl; is = cc }
+
+pub numbers_as : {g : ExportGiven} {a : ExportAnswer} {x : Result ℕ Stopped} {out : List ℕ}
     → (record { answer = x; out = out }) ≡ g → a ≡ numbers_of x → (record { answer = a; out = out }) ≡ in_numbers g
 unfolding in_numbers
 numbers_as e f = rw (← e, f) refl
 
-pub same_given : {g : ExportGiven} {x y : Exported} {os ps : List ℕ}
+pub same_given : {g : ExportGiven} {x y : Result ℕ Stopped} {os ps : List ℕ}
     → (record { answer = x; out = os }) ≡ g → (record { answer = y; out = ps }) ≡ g → (x ≡ y) × (os ≡ ps)
 same_given e f = let q = e ∙ sym f in (ap (λ (g : ExportGiven). g.answer) q, ap (λ (g : ExportGiven). g.out) q)
 

@@ -12,17 +12,17 @@ use native.Mathlib.Omega.{arith}
 use native.Mathlib.Nat.{mul-le-mul_left}
 use lib.ListN.{length, take, drop, length-append, length-take, length-drop, take-append-drop}
 use lib.Seq.{take_at, drop-append-add, drop-drop, length-take-le}
-use Rattle.part_rows.specs.declared.Followed.TheVariants.{To}
+use Rattle.std.specs.Prelude.{Ok}
 use Rattle.part_rows.specs.Shape.{Shape, Sound}
 use Rattle.part_rows.specs.Rows.{lead, with_row, export_from}
 use Rattle.part_rows.specs.Lists.{Leads, Along, here, past, rows_of}
 use Rattle.part_rows.proofs.Steps.{followed_to, to_followed, export_on}
 
 module _ {s : Shape} {b x : ℕ} where
-  pub leads_lead : Leads s b x → lead s b ≡ To x
+  pub leads_lead : Leads s b x → lead s b ≡ Ok x
   leads_lead l = followed_to (s.link b) l.readable l.reference l.value
 
-  pub lead_leads : lead s b ≡ To x → Leads s b x
+  pub lead_leads : lead s b ≡ Ok x → Leads s b x
   lead_leads e = let t = to_followed (s.link b) e in record { readable = t.0; reference = t.1; value = t.2 }
 
 pub rows_length : {s : Shape} {b c : ℕ} {bs : List ℕ} → Sound s → Along s b bs c → length (rows_of s bs) ≡ s.width * length bs

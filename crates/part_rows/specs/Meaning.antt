@@ -5,12 +5,11 @@
 --     ExportMeans s b out  an export answers complete exactly where it Completes, and stopped exactly where it Stops; either way the
 --                          buffer then has the rows of the blocks passed, and behind them what it had
 -- Assumes nothing.
-use Rattle.std.specs.Prelude.{ℕ, ◌+◌, ◌*◌, ◌≤◌, ◌<◌, ◌≡◌, ◌↔◌, ◌≢◌, List, ◌++◌, length, drop}
+use Rattle.std.specs.Prelude.{ℕ, ◌+◌, ◌*◌, ◌≤◌, ◌<◌, ◌≡◌, ◌↔◌, ◌≢◌, List, ◌++◌, Ok, length, drop}
 use Rattle.part_rows.specs.declared.Reason.{Reason}
 use Rattle.part_rows.specs.declared.Reason.TheVariants.{Circle, NoRoom, Refused, NoReference}
-use Rattle.part_rows.specs.declared.Exported.TheVariants.{Complete, Stopped}
 use Rattle.part_rows.specs.Shape.{Shape}
-use Rattle.part_rows.specs.Rows.{complete, export_rows}
+use Rattle.part_rows.specs.Rows.{complete, off, export_rows}
 use Rattle.part_rows.specs.Lists.{Along, Listed, rows_of}
 
 pub record Completes (s : Shape) (b n : ℕ) (out : List ℕ) : Type 0 where
@@ -37,8 +36,8 @@ pub record Stops (s : Shape) (b n : ℕ) (r : Reason) (out : List ℕ) : Type 0 
   pub why : Halts s at n (length out) r
 
 pub record ExportMeans (s : Shape) (b : ℕ) (out : List ℕ) : Type 0 where
-  pub completes : (n : ℕ) → ((export_rows s b out).answer ≡ Complete n) ↔ Completes s b n out
-  pub stops : (n : ℕ) (r : Reason) → ((export_rows s b out).answer ≡ Stopped n r) ↔ Stops s b n r out
+  pub completes : (n : ℕ) → ((export_rows s b out).answer ≡ Ok n) ↔ Completes s b n out
+  pub stops : (n : ℕ) (r : Reason) → ((export_rows s b out).answer ≡ off n r) ↔ Stops s b n r out
   -- "the buffer's first 8n words are those blocks' words in order and the rest is as before"
   pub rows : {n : ℕ} (c : Completes s b n out) → (export_rows s b out).out ≡ rows_of s c.blocks ++ drop (s.width * n) out
   -- "a stopped export has written exactly the rows counted, the rest of the buffer is as before"

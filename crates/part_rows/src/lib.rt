@@ -1,12 +1,14 @@
-// What the exports share: why one stops, what it answers, and the same in numbers.
+// What the exports share: what a list's rows are to an export, the export itself, why one stops, and its answer in numbers.
 #![tactic(auto)]
 
-ghost use Rattle.std.specs.Prelude.{◌≡◌};
-ghost use Rattle.part_rows.specs.Numbers.{stopped_numbers, numbers_of};
+ghost use Rattle.std.specs.Prelude.{◌≡◌, IsOk, length};
+ghost use Rattle.part_rows.specs.Shape.{Shape};
+ghost use Rattle.part_rows.specs.Rows.{after, lead, export_rows};
+ghost use Rattle.part_rows.specs.Numbers.{reason_number, refusal_number, numbers_of};
 
 // Why an export stopped: it has M rows and there is one more, so that the list runs in a circle; the next row doesn't fit
 // the buffer; reading the row is refused, by this number; its link is no reference.
-#[derive(Clone, Copy)]
+#[derive(Clone, Copy, PartialEq, Eq, Debug)]
 pub enum Reason {
     Circle,
     NoRoom,
@@ -14,22 +16,94 @@ pub enum Reason {
     NoReference,
 }
 
-// What an export answers: complete, with the number of rows; or stopped, with the rows written before, and the reason.
-#[derive(Clone, Copy)]
-pub enum Exported {
-    Complete(u32),
-    Stopped(u32, Reason),
+impl Reason {
+    // 1 for a circle, 2 for no room, 3 where reading a row was refused, 4 for a link that is no reference.
+    fn number(self) -> u32
+        ensures { result ≡ reason_number self }
+    {
+        match self {
+            Reason::Circle => 1,
+            Reason::NoRoom => 2,
+            Reason::Refused(_) => 3,
+            Reason::NoReference => 4,
+        }
+    }
+
+    // The number by which reading a row was refused, else 0.
+    fn refusal(self) -> u32
+        ensures { result ≡ refusal_number self }
+    {
+        match self {
+            Reason::Refused(n) => n,
+            _ => 0,
+        }
+    }
+
+    // An export that stopped for this reason, with so many rows written.
+    pub fn after(self, rows: u32) -> Stopped
+        ensures { result ≡ after rows self }
+    {
+        Stopped { rows, reason: self }
+    }
 }
 
-// What a row's link leads to: the next block or 0, or nowhere, for this reason.
-#[derive(Clone, Copy)]
-pub enum Followed {
-    To(u32),
-    Nowhere(Reason),
+// What an export answers that is not complete: the rows that it has written, and why it stopped.
+#[derive(Clone, Copy, PartialEq, Eq, Debug)]
+pub struct Stopped {
+    pub rows: u32,
+    pub reason: Reason,
 }
 
-// An export's answer in numbers: complete is 1 or 0; reason is 0 where it is complete, else 1 for a circle, 2 for no room,
-// 3 where reading a row was refused, 4 for a link that is no reference; refusal is the refusal's number with 3, else 0.
+// The rows of a list, as an export goes along them. A row has the number of its first block.
+pub trait Rows {
+    ghost shape: { Self → Shape };
+
+    // The words of a row.
+    fn width(&self) -> usize
+        ensures { result ≡ (shape self.now).width };
+
+    // The most rows that a list has.
+    fn most(&self) -> u32
+        ensures { result ≡ (shape self.now).most };
+
+    // The row that the link of the row b leads to, or why it leads to none.
+    fn follow(&self, b: u32) -> Result<u32, Reason>
+        ensures { result ≡ lead (shape self.now) b };
+
+    // The words of the row b to its place in the buffer.
+    fn write(&self, b: u32, row: &mut [u32])
+        requires { IsOk (lead (shape self.now) b) × (length row.old ≡ (shape self.now).width) }
+        ensures { row.new ≡ (shape self.now).row b };
+}
+
+// Export: the rows of the list that starts at the row start, where 0 is the empty list. It is complete, with the number of rows, or
+// it is not. Each row passes the four tests, in the order of Reason, before it is written.
+pub fn export_rows<R: Rows>(rows: &R, start: u32, out: &mut [u32]) -> Result<u32, Stopped>
+    ensures { (record { answer = result; out = out.new }) ≡ export_rows (R.shape rows.now) start out.old }
+{
+    let width = rows.width();
+    let most = rows.most();
+    let mut b = start;
+    let mut n: u32 = 0;
+    let mut at: usize = 0;
+    while b != 0 {
+        if n == most {
+            return Err(Reason::Circle.after(n));
+        }
+        if out.len() - at < width {
+            return Err(Reason::NoRoom.after(n));
+        }
+        let next = rows.follow(b).map_err(|reason| reason.after(n))?;
+        rows.write(b, &mut out[at..at + width]);
+        b = next;
+        n += 1;
+        at += width;
+    }
+    Ok(n)
+}
+
+// An export's answer in numbers: complete is 1 or 0; reason is 0 where it is complete, else the reason's number; refusal is the
+// refusal's number with reason 3, else 0.
 #[repr(C)]
 #[derive(Clone, Copy)]
 pub struct ExportAnswer {
@@ -39,34 +113,23 @@ pub struct ExportAnswer {
     pub refusal: u32,
 }
 
-// An export's answer in numbers.
-pub fn numbers_of(x: Exported) -> ExportAnswer
-    ensures { result ≡ numbers_of x }
-{
-    match x {
-        Exported::Complete(n) => ExportAnswer {
-            complete: 1,
-            rows: n,
-            reason: 0,
-            refusal: 0,
-        },
-        Exported::Stopped(n, reason) => match reason {
-            Reason::Circle => stopped(n, 1, 0),
-            Reason::NoRoom => stopped(n, 2, 0),
-            Reason::Refused(refusal) => stopped(n, 3, refusal),
-            Reason::NoReference => stopped(n, 4, 0),
-        },
-    }
-}
+impl From<Result<u32, Stopped>> for ExportAnswer {
+    ghost from_gives = { λ x answer. answer ≡ numbers_of x };
 
-// Not complete, with these numbers.
-fn stopped(rows: u32, reason: u32, refusal: u32) -> ExportAnswer
-    ensures { result ≡ stopped_numbers rows reason refusal }
-{
-    ExportAnswer {
-        complete: 0,
-        rows: rows,
-        reason: reason,
-        refusal: refusal,
+    fn from(x: Result<u32, Stopped>) -> ExportAnswer {
+        match x {
+            Ok(rows) => ExportAnswer {
+                complete: 1,
+                rows,
+                reason: 0,
+                refusal: 0,
+            },
+            Err(Stopped { rows, reason }) => ExportAnswer {
+                complete: 0,
+                rows,
+                reason: reason.number(),
+                refusal: reason.refusal(),
+            },
+        }
     }
 }

@@ -1,14 +1,14 @@
 // The list damaged a way at a time, exported so, and mended.
 use crate::night;
 use crate::night::Night;
-use part_rows::Exported;
+use part_rows::Stopped;
 use text_commands::Command;
 
 // What the export answered, and the night after it.
 #[derive(Clone, Copy)]
 pub(crate) struct Tried {
     pub(crate) night: Night,
-    pub(crate) found: Exported,
+    pub(crate) found: Result<u32, Stopped>,
 }
 
 // The export after one call, and then another call.

@@ -9,7 +9,7 @@ mod printing;
 use damage::Tried;
 use machine::Regs;
 use night::Night;
-use part_rows::Exported;
+use part_rows::Stopped;
 
 // A night of which something was said, and whether all of that could be written.
 #[derive(Clone, Copy)]
@@ -19,7 +19,7 @@ struct Said {
 }
 
 // What an export answered, and how many rows of the buffer are not as they were stored.
-fn shown<R: Print>(rt: &R, text: &[u8], x: Exported, out: &[u32]) -> bool {
+fn shown<R: Print>(rt: &R, text: &[u8], x: Result<u32, Stopped>, out: &[u32]) -> bool {
     printing::outcome(rt, text, x)
         && printing::number(
             rt,

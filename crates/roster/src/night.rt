@@ -1,7 +1,7 @@
 // A night: rows are stored behind one another, with garbage made after each, and exported. A row is an object of 14 fields in two
 // blocks. Its field 0 links it to the next, the others hold numbers.
 use machine::{Outcome, Regs};
-use part_rows::Exported;
+use part_rows::Stopped;
 use text_commands::Command;
 
 // The list while it grows: the registers, its first and its last row, row 6,144 with its second block, the row following it, what the
@@ -244,6 +244,6 @@ pub(crate) fn exported(
     colours: &[u32; 16384],
     bytes: &[u8; 16384],
     out: &mut [u32],
-) -> Exported {
+) -> Result<u32, Stopped> {
     call_export_objects::export_objects(t.regs, words, colours, bytes, out, t.first, 14, 0)
 }

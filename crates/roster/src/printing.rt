@@ -1,5 +1,5 @@
 // Lines of plain words. Each function answers whether all of its line could be written.
-use part_rows::{Exported, Reason};
+use part_rows::{Reason, Stopped};
 
 fn say<R: Print>(rt: &R, text: &[u8]) -> bool {
     rt.write_all(text).is_ok()
@@ -32,10 +32,10 @@ fn reason<R: Print>(rt: &R, r: Reason) -> bool {
 }
 
 // The words, and whether the export is complete, with the number of rows; where it isn't, why.
-pub(crate) fn outcome<R: Print>(rt: &R, text: &[u8], x: Exported) -> bool {
+pub(crate) fn outcome<R: Print>(rt: &R, text: &[u8], x: Result<u32, Stopped>) -> bool {
     match x {
-        Exported::Complete(n) => say(rt, text) && number(rt, b"complete, rows: ", n),
-        Exported::Stopped(n, r) => {
+        Ok(n) => say(rt, text) && number(rt, b"complete, rows: ", n),
+        Err(Stopped { rows: n, reason: r }) => {
             say(rt, text)
                 && say(rt, b"NOT complete, rows: ")
                 && decimal(rt, n)

@@ -27,7 +27,7 @@ use Rattle.machine.proofs.Refusals.{Readable, readable, passes, entered, word_fi
 use Rattle.theory_promises.specs.Reachable.{Reachable, is_named, SameWord}
 use Rattle.theory_promises.proofs.Serving.{live_holder}
 use Rattle.theory_promises.proofs.Losing.{reachable_live}
-use Rattle.part_rows.specs.declared.Followed.TheVariants.{To}
+use Rattle.std.specs.Prelude.{Ok}
 use Rattle.part_rows.specs.Lists.{Leads}
 use Rattle.part_rows.proofs.Walks.{leads_lead, lead_leads}
 use Rattle.call_export.specs.Export.{block_rows}
@@ -67,7 +67,7 @@ live_reads h f b w l v =
 pub leads_same : {h k : Heap} (w : ℕ) {b x : ℕ} → WellFormed k → Leads (block_rows w h) b x → Reachable k b → SameWord h k b w → Leads (block_rows w k) b x
 leads_same {h} {k} w {b} {x} f l r s =
     let z = live_reads k f b w (leads_readable h w l).low (reachable_live k f b r) in
-    lead_leads (sym (follow_on k b w z (s.bit ∙ leads_set h w l)) ∙ ap To (s.word ∙ leads_holds h w l))
+    lead_leads (sym (follow_on k b w z (s.bit ∙ leads_set h w l)) ∙ ap Ok (s.word ∙ leads_holds h w l))
 
 at_word : (ws : List ℕ) (b i : ℕ) → i < 8 → get_or (eight_words ws b) i 0 ≡ word_of ws b i
 unfolding eight_words

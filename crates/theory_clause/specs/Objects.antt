@@ -14,7 +14,7 @@ use Rattle.machine.specs.Session.{Call, session}
 use Rattle.theory_objects.specs.Lengths.{Long}
 use Rattle.theory_promises.specs.Reachable.{Reachable}
 use Rattle.part_rows.specs.declared.Reason.TheVariants.{Refused}
-use Rattle.part_rows.specs.declared.Exported.TheVariants.{Stopped}
+use Rattle.part_rows.specs.Rows.{off}
 use Rattle.part_rows.specs.Lists.{Listed}
 use Rattle.call_export_objects.specs.Objects.{object_rows, row_fits, export_objects}
 use Rattle.theory_clause.specs.Lasting.{Kind, blocks_of, Hangs, Spared, ExportLasts}
@@ -42,4 +42,4 @@ pub record TooShort (h : Heap) (n : ℕ) : Type 0 where
 abbrev pub OnlyTooShort : Type 0
 OnlyTooShort =
     (h : Heap) → WellFormed h → (s n link : ℕ) → row_fits n link ≡ true → Hangs h s → (out : List ℕ) (m e : ℕ)
-    → (export_objects s n link h out).answer ≡ Stopped m (Refused e) → (e ≡ 3) × TooShort h n
+    → (export_objects s n link h out).answer ≡ off m (Refused e) → (e ≡ 3) × TooShort h n

@@ -7,19 +7,18 @@ use Rattle.std.specs.Prelude.{ℕ, ◌≤◌, ◌≡◌, ◌≢◌, List, length
 use Rattle.machine.specs.Heap.{Heap}
 use Rattle.machine.specs.WellFormed.{WellFormed}
 use Rattle.part_rows.specs.declared.Reason.TheVariants.{Circle, Refused}
-use Rattle.part_rows.specs.declared.Exported.TheVariants.{Stopped}
-use Rattle.part_rows.specs.Rows.{export_rows}
+use Rattle.part_rows.specs.Rows.{off, export_rows}
 use Rattle.part_rows.specs.Lists.{Listed}
 use Rattle.call_export.specs.Export.{export}
 use Rattle.theory_clause.specs.Lasting.{Kind, Hangs}
 
 abbrev pub NeverRefused : Type 0
 NeverRefused =
-    (h : Heap) → WellFormed h → (s w : ℕ) → w ≤ 7 → Hangs h s → (out : List ℕ) (n e : ℕ) → (export s w h out).answer ≢ Stopped n (Refused e)
+    (h : Heap) → WellFormed h → (s w : ℕ) → w ≤ 7 → Hangs h s → (out : List ℕ) (n e : ℕ) → (export s w h out).answer ≢ off n (Refused e)
 
 -- on any heap: a list that ends has no more rows than the heap has blocks
 pub record TrueCircle (kind : Kind) : Type 0 where
   pub short : (h : Heap) (s : ℕ) (bs : List ℕ) → Listed (kind.shape h) s bs → length bs ≤ h.regs.blocks
   pub endless :
-      (h : Heap) (s n : ℕ) (out : List ℕ) → (export_rows (kind.shape h) s out).answer ≡ Stopped n Circle → (bs : List ℕ)
+      (h : Heap) (s n : ℕ) (out : List ℕ) → (export_rows (kind.shape h) s out).answer ≡ off n Circle → (bs : List ℕ)
       → Listed (kind.shape h) s bs → ⊥

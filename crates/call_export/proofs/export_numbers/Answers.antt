@@ -3,4 +3,4 @@ use Rattle.part_rows.proofs.Steps.{numbers_as}
 use Rattle.call_export.proofs.export_numbers.Goals as goal
 
 pub returns : goal.returns
-returns c = numbers_as c.export.ensures c.numbers_of.ensures
+returns c = numbers_as c.export.ensures c.from.ensures
