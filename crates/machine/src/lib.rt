@@ -94,7 +94,7 @@ pub const WHY_KEPT: u32 = 4;
 
 // The register record, in document 01's order, then the mark: the highest block handed out since format.
 #[repr(C)]
-#[derive(Clone, Copy)]
+#[derive(Clone, Copy, Default, PartialEq, Eq)]
 pub struct Regs {
     pub blocks: u32,
     pub pace: u32,
