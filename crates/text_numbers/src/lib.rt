@@ -21,7 +21,7 @@ pub struct Number {
 }
 
 // The bytes up to the first space, or to the end.
-fn piece(text: &[u8]) -> &[u8]
+pub fn piece(text: &[u8]) -> &[u8]
     ensures { result.now ≡ piece text.now }
 {
     let end = text.iter().position(|b| *b == b' ').unwrap_or(text.len());
