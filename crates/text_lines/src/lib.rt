@@ -2,12 +2,12 @@
 // The lent buffers are those of the greatest heap that the caller wants; a line acts on the parts of them that M blocks take.
 #![tactic(auto)]
 
-ghost use Rattle.std.specs.Prelude.{◌≡◌, min};
+ghost use Rattle.std.specs.Prelude.{◌≡◌};
 ghost use Rattle.machine.specs.Heap.{heap};
 ghost use Rattle.text_commands.specs.Saying.{said};
 ghost use Rattle.text_lines.specs.Line.{performed, line_gives};
 
-use machine::Regs;
+use machine::{Outcome, Regs};
 use text_commands::{Command, Said};
 
 // Does what a line asks for, on buffers of the heap's own lengths.
@@ -21,48 +21,36 @@ pub fn perform(
     ensures { said result words.new colours.new bytes.new ≡ performed c (heap r words.old colours.old bytes.old) }
 {
     match c {
-        Command::Format(m, u) => text_commands::told(call_format::format(
-            r, words, colours, bytes, m, u,
-        )),
-        Command::Read(b, w) => text_commands::told_read(
-            r,
-            call_read::read(r, &words[..], &colours[..], &bytes[..], b, w),
-        ),
-        Command::StoreNumber(b, w, v) => text_commands::told(call_store::store_number(
-            r, words, colours, bytes, b, w, v,
-        )),
-        Command::StoreReference(b, w, t) => text_commands::told(call_store::store_reference(
-            r, words, colours, bytes, b, w, t,
-        )),
-        Command::SetRoot(t) => text_commands::told(call_store::set_root(
-            r, words, colours, bytes, t,
-        )),
-        Command::Allocate(b, w) => text_commands::told(call_allocate::allocate(
-            r, words, colours, bytes, b, w,
-        )),
-        Command::Work(n) => text_commands::told(call_work::work(r, words, colours, bytes, n)),
-        Command::Audit => text_commands::told_audit(
-            r,
-            call_audit::audit(r, &words[..], &colours[..], &bytes[..]),
-        ),
-        Command::Broken => text_commands::told_broken(r),
+        Command::Format(m, u) => Said::from(call_format::format(r, words, colours, bytes, m, u)),
+        Command::Read(b, w) => Said::of_read(r, call_read::read(r, words, colours, bytes, b, w)),
+        Command::StoreNumber(b, w, v) => {
+            Said::from(call_store::store_number(r, words, colours, bytes, b, w, v))
+        }
+        Command::StoreReference(b, w, t) => {
+            Said::from(call_store::store_reference(r, words, colours, bytes, b, w, t))
+        }
+        Command::SetRoot(t) => Said::from(call_store::set_root(r, words, colours, bytes, t)),
+        Command::Allocate(b, w) => {
+            Said::from(call_allocate::allocate(r, words, colours, bytes, b, w))
+        }
+        Command::Work(n) => Said::from(call_work::work(r, words, colours, bytes, n)),
+        Command::Audit => Said::from(Outcome {
+            regs: r,
+            answer: call_audit::audit(r, words, colours, bytes),
+        }),
     }
-}
-
-fn least(a: usize, b: usize) -> usize
-    ensures { result ≡ min a b }
-{
-    if a < b { a } else { b }
 }
 
 // Reads a line, given without its byte 10, and does what it asks for.
 pub fn line(r: Regs, words: &mut [u32], colours: &mut [u32], bytes: &mut [u8], text: &[u8]) -> Said
     ensures { said result words.new colours.new bytes.new ≡ line_gives text.now (heap r words.old colours.old bytes.old) }
 {
-    let c = text_commands::command_of(text);
-    let m = text_commands::blocks_of(c, r) as usize;
-    let a = least(8 * m, words.len());
-    let b = least(m, colours.len());
-    let d = least(m, bytes.len());
+    let Some(c) = text_commands::command_of(text) else {
+        return Said::of_broken_line(r);
+    };
+    let m = c.blocks(r) as usize;
+    let a = (8 * m).min(words.len());
+    let b = m.min(colours.len());
+    let d = m.min(bytes.len());
     perform(r, &mut words[..a], &mut colours[..b], &mut bytes[..d], c)
 }
