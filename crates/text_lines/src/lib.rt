@@ -54,3 +54,57 @@ pub fn line(r: Regs, words: &mut [u32], colours: &mut [u32], bytes: &mut [u8], t
     let d = m.min(bytes.len());
     perform(r, &mut words[..a], &mut colours[..b], &mut bytes[..d], c)
 }
+
+// A heap that a program keeps: the registers, and buffers for N blocks, of W words in all.
+pub struct Heap<const W: usize, const N: usize> {
+    pub regs: Regs,
+    pub words: [u32; W],
+    pub colours: [u32; N],
+    pub bytes: [u8; N],
+}
+
+impl<const W: usize, const N: usize> Heap<W, N> {
+    // Before a first Format the registers are all 0, and so are the buffers.
+    pub fn new() -> Self
+        ensures { result.regs.blocks ≡ 0 }
+    {
+        Heap {
+            regs: Regs::default(),
+            words: [0; W],
+            colours: [0; N],
+            bytes: [0; N],
+        }
+    }
+
+    // Does what a command asks for, on all of the buffers.
+    pub fn perform(&mut self, c: Command) -> Said
+        ensures said { said result self.new.words self.new.colours self.new.bytes ≡ performed c (heap self.old.regs self.old.words self.old.colours self.old.bytes) }
+        ensures regs { self.new.regs ≡ result.regs }
+    {
+        let said = perform(
+            self.regs,
+            &mut self.words,
+            &mut self.colours,
+            &mut self.bytes,
+            c,
+        );
+        self.regs = said.regs;
+        said
+    }
+
+    // Reads a line, given without its byte 10, and does what it asks for, on the parts of the buffers that its blocks take.
+    pub fn line(&mut self, text: &[u8]) -> Said
+        ensures said { said result self.new.words self.new.colours self.new.bytes ≡ line_gives text.now (heap self.old.regs self.old.words self.old.colours self.old.bytes) }
+        ensures regs { self.new.regs ≡ result.regs }
+    {
+        let given = line(
+            self.regs,
+            &mut self.words,
+            &mut self.colours,
+            &mut self.bytes,
+            text,
+        );
+        self.regs = given.regs;
+        given
+    }
+}
