@@ -56,6 +56,7 @@ pub fn line(r: Regs, words: &mut [u32], colours: &mut [u32], bytes: &mut [u8], t
 }
 
 // A heap that a program keeps: the registers, and buffers for N blocks, of W words in all.
+#[derive(Drop)]
 pub struct Heap<const W: usize, const N: usize> {
     pub regs: Regs,
     pub words: [u32; W],
