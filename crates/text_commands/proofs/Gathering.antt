@@ -1,95 +1,98 @@
 -- Laws of the loop that reads a line's numbers: those read so far, and those still to come.
---     gather vs ps         the numbers vs, and after them those that the pieces ps are
 --     Gathered             what holds from turn to turn
---     gather_start, gather_on, gather_off, gather_end     the start, a number, something else, the end
+--     gather_start, gather_on, gather_off, gather_more, gather_end     the start, a number, something else, more numbers than 3, the end
+--     letter_on, letter_off     a line whose first piece is one byte, and one whose isn't
 -- Assumes nothing.
-use Prim.Native.Nat.{ℕ, ◌+◌, ◌≤◌, ◌<◌}
+use Prim.Native.Nat.{ℕ, ◌+◌, ◌≤◌, ◌<◌, suc}
 use mathlib.Core.Path.{◌≡◌, refl, sym, ◌∙◌, ap}
 use mathlib.Core.Bool.{Bool, true, false}
 use mathlib.Core.List.{List, [], ◌∷◌, ◌++◌, append_assoc, append-nil}
-use lib.ListN.{length, get_or, drop}
-use Rattle.std.specs.Prelude.{if◌then◌else◌}
+use native.Mathlib.Omega.{arith}
+use native.Mathlib.Numerals.{add-one}
+use lib.ListN.{length, get_or, take, drop, set, length-append, length-set, length-take}
+use lib.Seq.{take-suc-set}
+use Rattle.std.specs.Prelude.{Some, None}
+use Rattle.std.proofs.lemmas.Bool.{false≢true}
 use Rattle.machine.proofs.Steps.{never}
-use Rattle.text_numbers.specs.declared.Cursor.{Cursor}
 use Rattle.text_numbers.specs.declared.Number.{Number}
-use Rattle.text_numbers.specs.declared.Number.TheVariants.{Whole, Broken}
 use Rattle.text_numbers.specs.Numbers.{space, piece, later, value, is_number, number_at}
 use Rattle.text_numbers.proofs.Pieces.{later_space, later_end, later_past, piece_stops}
-use Rattle.text_commands.specs.declared.Numbers.{Numbers}
-use Rattle.text_commands.specs.declared.Arguments.{Arguments}
-use Rattle.text_commands.specs.declared.Arguments.TheVariants.{Are, Broken as NoArguments}
-use Rattle.text_commands.specs.Command.{numbers, all_numbers, values, packed, arguments_of}
+use Rattle.text_commands.specs.Command.{all_numbers, values, NumbersOf}
 
-unfoldable pub gather : List ℕ → List (List ℕ) → Arguments
-gather vs ps = if all_numbers ps then Are (packed (vs ++ values ps)) else NoArguments
-
-pub record Gathered (text : List ℕ) (first at : ℕ) (n : Numbers) : Type 0 where
-  pub read : List ℕ
-  pub packs : n ≡ packed read
+pub record Gathered (text : List ℕ) (first at i : ℕ) (ns : List ℕ) : Type 0 where
+  pub room : length ns ≡ 3
   pub stands : at < length text → get_or text at 0 ≡ space
-  pub rest : arguments_of (later (drop first text)) ≡ gather read (later (drop at text))
+  pub whole : all_numbers (later (drop first text)) ≡ all_numbers (later (drop at text))
+  pub rest : values (later (drop first text)) ≡ take i ns ++ values (later (drop at text))
 
 pub gather_start :
-    (text : List ℕ) (at : ℕ) → (at < length text → get_or text at 0 ≡ space) → Gathered text at at (numbers 0 0 0 0)
-unfolding gather arguments_of
-gather_start text at h = record { read = []; packs = refl; stands = h; rest = refl }
+    (text : List ℕ) (at : ℕ) (ns : List ℕ) → length ns ≡ 3 → (at < length text → get_or text at 0 ≡ space) → Gathered text at at 0 ns
+gather_start text at ns r h = record { room = r; stands = h; whole = refl; rest = refl }
 
 -- what reading a number found, taken apart
-pub record Found (text : List ℕ) (at v : ℕ) (end : Cursor) : Type 0 where
-  pub number : is_number (piece (drop at text)) ≡ true
-  pub worth : v ≡ value 0 (piece (drop at text))
-  pub reached : end.at ≡ at + length (piece (drop at text))
+record Found (text : List ℕ) (at : ℕ) (n : Number) : Type 0 where
+  number : is_number (piece (drop at text)) ≡ true
+  worth : n.value ≡ value 0 (piece (drop at text))
+  reached : n.end.at ≡ at + length (piece (drop at text))
 
-pub found : (text : List ℕ) (at v : ℕ) (end : Cursor) (r : Number) → r ≡ number_at text at → r ≡ Whole v end → Found text at v end
+some_is : {n m : Number} → Some n ≡ Some m → n ≡ m
+some_is e = cc
+
+found : (text : List ℕ) (at : ℕ) (n : Number) → Some n ≡ number_at text at → Found text at n
 unfolding number_at
-found text at v end r e w = go (is_number (piece (drop at text))) refl
+found text at n e = go (is_number (piece (drop at text))) refl
   where
-    go : (t : Bool) → is_number (piece (drop at text)) ≡ t → Found text at v end
-    go true q = let f = simp q at (sym w ∙ e) in record { number = q; worth = cc; reached = cc }
-    go false q = let f = simp q at (sym w ∙ e) in never (cc)
+    go : (t : Bool) → is_number (piece (drop at text)) ≡ t → Found text at n
+    go true q =
+        let f = some_is (simp q at e) in
+        record { number = q; worth = ap (λ (k : Number). k.value) f; reached = ap (λ (k : Number). k.end.at) f }
+    go false q = let f = simp q at e in never (cc)
 
-pub not_found : (text : List ℕ) (at : ℕ) (r : Number) → r ≡ number_at text at → r ≡ Broken → is_number (piece (drop at text)) ≡ false
+not_found : (text : List ℕ) (at : ℕ) → None ≡ number_at text at → is_number (piece (drop at text)) ≡ false
 unfolding number_at
-not_found text at r e w = go (is_number (piece (drop at text))) refl
+not_found text at e = go (is_number (piece (drop at text))) refl
   where
     go : (t : Bool) → is_number (piece (drop at text)) ≡ t → is_number (piece (drop at text)) ≡ false
-    go true q = let f = simp q at (sym w ∙ e) in never (cc)
+    go true q = let f = simp q at e in never (cc)
     go false q = q
 
-one : (vs : List ℕ) (p : List ℕ) (ps : List (List ℕ)) → is_number p ≡ true → gather vs (p ∷ ps) ≡ gather (vs ++ value 0 p ∷ []) ps
-unfolding gather all_numbers values
-one vs p ps e = simp (e, append_assoc)
-
-none : (vs : List ℕ) (p : List ℕ) (ps : List (List ℕ)) → is_number p ≡ false → gather vs (p ∷ ps) ≡ NoArguments
-unfolding gather all_numbers
-none vs p ps e = simp e
-
-module _ (text : List ℕ) (first at : ℕ) (n : Numbers) (g : Gathered text first at n) (l : at < length text) where
+module _ (text : List ℕ) (first at i : ℕ) (ns : List ℕ) (g : Gathered text first at i ns) where
   pub gather_on :
-      {v : ℕ} {end : Cursor} {r : Number} (m : Numbers) → r ≡ number_at text (at + 1) → r ≡ Whole v end
-      → ((vs : List ℕ) → n ≡ packed vs → m ≡ packed (vs ++ v ∷ [])) → Gathered text first end.at m
-  gather_on {v} {end} {r} m e w f =
-      let d = found text (at + 1) v end r e w in
+      {n : Number} → at < length text → i < 3 → Some n ≡ number_at text (at + 1)
+      → Gathered text first n.end.at (i + 1) (set ns i n.value)
+  unfolding all_numbers values
+  gather_on {n} l k e =
+      let d = found text (at + 1) n e in
+      let s = later_space text at l (g.stands l) in
+      let r = g.room in
       record {
-        read = g.read ++ v ∷ [];
-        packs = f g.read g.packs;
+        room = length-set ns i n.value ∙ r;
         stands = rw d.reached (piece_stops text (at + 1));
+        whole = g.whole ∙ ap all_numbers s ∙ simp d.number (rw d.reached (ap all_numbers (later_past text (at + 1))));
         rest =
             g.rest
-            ∙ ap (gather g.read) (later_space text at l (g.stands l))
-            ∙ one g.read _ _ d.number
-            ∙ rw (d.worth, d.reached) (ap (gather (g.read ++ value 0 (piece (drop (at + 1) text)) ∷ [])) (later_past text (at + 1)));
+            ∙ ap (λ (ps : List (List ℕ)). take i ns ++ values ps) s
+            ∙ ap (λ (v : ℕ). take i ns ++ (v ∷ values (later (drop (at + 1) text)))) (sym d.worth)
+            ∙ sym (append_assoc (take i ns) (n.value ∷ []) (values (later (drop (at + 1) text))))
+            ∙ ap (λ (vs : List ℕ). vs ++ values (later (drop (at + 1) text))) (sym (take-suc-set ns i n.value (omega arith)))
+            ∙ rw (add-one i, d.reached) (ap (λ (ps : List (List ℕ)). take (suc i) (set ns i n.value) ++ values ps) (later_past text (at + 1)));
       }
 
-  pub gather_off : {r : Number} → r ≡ number_at text (at + 1) → r ≡ Broken → NoArguments ≡ arguments_of (later (drop first text))
-  gather_off {r} e w =
-      sym (g.rest
-      ∙ ap (gather g.read) (later_space text at l (g.stands l))
-      ∙ none g.read _ _ (not_found text (at + 1) r e w))
+  pub gather_off : at < length text → None ≡ number_at text (at + 1) → all_numbers (later (drop first text)) ≡ true → 3 < length (values (later (drop first text)))
+  unfolding all_numbers
+  gather_off l e t =
+      absurd (false≢true (sym (g.whole ∙ ap all_numbers (later_space text at l (g.stands l)) ∙ simp (not_found text (at + 1) e)) ∙ t))
 
-pub gather_end :
-    (text : List ℕ) (first at : ℕ) (n : Numbers) → Gathered text first at n → length text ≤ at
-    → Are n ≡ arguments_of (later (drop first text))
-unfolding gather all_numbers values
-gather_end text first at n g l =
-    sym (g.rest ∙ ap (gather g.read) (later_end text at l) ∙ (simp append-nil) ∙ ap Are (sym g.packs))
+  pub gather_more : at < length text → 3 ≤ i → all_numbers (later (drop first text)) ≡ true → 3 < length (values (later (drop first text)))
+  unfolding values
+  gather_more l k a =
+      let r = g.room in
+      let t = length-take i ns in
+      let s = ap length (g.rest ∙ ap (λ (ps : List (List ℕ)). take i ns ++ values ps) (later_space text at l (g.stands l))) in
+      let z = length-append (take i ns) (values (piece (drop (at + 1) text) ∷ later (drop (at + 1) text))) in
+      omega arith
+
+  pub gather_end : (k : ℕ) → k ≡ i → length text ≤ at → k ≤ 3 → NumbersOf (later (drop first text)) (Some k) ns
+  unfolding all_numbers values
+  gather_end k e l b =
+      (b, g.whole ∙ ap all_numbers (later_end text at l), rw e (sym (g.rest ∙ ap (λ (ps : List (List ℕ)). take i ns ++ values ps) (later_end text at l) ∙ append-nil (take i ns))))

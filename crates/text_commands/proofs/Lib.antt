@@ -1,4 +1,4 @@
 -- What is proved of commands alone.
-pub mod Packing
 pub mod Gathering
+pub mod Meaning
 pub mod Naming

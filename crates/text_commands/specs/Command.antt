@@ -4,18 +4,15 @@
 -- over 40 bytes, prints `99 0 0` and does nothing."
 --     all_numbers ps        every piece is a number
 --     values ps            their values
---     meant l ns           what the letter l and the numbers ns ask for
+--     meant l ns           what the letter l and the numbers ns ask for, if anything
 --     named first ps       the same of a line's first piece and its later ones
---     command_of text       what a line asks for
---     packed ns, arguments_of ps     numbers as the code passes them
+--     command_of text       what a line asks for; None where it breaks the rules
+--     NumbersOf ps n ns     what reading the pieces ps finds: the first n of ns are their numbers, or they are no numbers, or more than 3
 -- Assumes nothing.
-use Rattle.std.specs.Prelude.{ℕ, Bool, true, ◌&&◌, List, [], ◌∷◌, eqb, leb, length, if◌then◌else◌}
+use Rattle.std.specs.Prelude.{ℕ, ◌≡◌, ◌<◌, ◌≤◌, Bool, true, ◌&&◌, List, [], ◌∷◌, Option, Some, None, MatchOption, eqb, leb, length, take, if◌then◌else◌}
 use Rattle.text_numbers.specs.Numbers.{piece, later, value, is_number}
-use Rattle.text_commands.specs.declared.Numbers.{Numbers}
-use Rattle.text_commands.specs.declared.Arguments.{Arguments}
-use Rattle.text_commands.specs.declared.Arguments.TheVariants.{Are, Broken as NoArguments}
 use Rattle.text_commands.specs.declared.Command.{Command}
-use Rattle.text_commands.specs.declared.Command.TheVariants.{Format, Read, StoreNumber, StoreReference, SetRoot, Allocate, Work, Audit, Broken}
+use Rattle.text_commands.specs.declared.Command.TheVariants.{Format, Read, StoreNumber, StoreReference, SetRoot, Allocate, Work, Audit}
 
 -- the letters
 abbrev pub A : ℕ
@@ -51,32 +48,25 @@ values [] = []
 values (p ∷ ps) = value 0 p ∷ values ps
 
 -- "F M U, R b w, N b w v, S b w t, T t, A b w, W n, C for audit"
-unfoldable pub meant : ℕ → List ℕ → Command
-meant l [] = if eqb l C then Audit else Broken
-meant l (x ∷ []) = if eqb l T then SetRoot x else if eqb l W then Work x else Broken
-meant l (x ∷ y ∷ []) = if eqb l F then Format x y else if eqb l R then Read x y else if eqb l A then Allocate x y else Broken
-meant l (x ∷ y ∷ z ∷ []) = if eqb l N then StoreNumber x y z else if eqb l S then StoreReference x y z else Broken
-meant l (x ∷ y ∷ z ∷ t ∷ ns) = Broken
+unfoldable pub meant : ℕ → List ℕ → Option Command
+meant l [] = if eqb l C then Some Audit else None
+meant l (x ∷ []) = if eqb l T then Some (SetRoot x) else if eqb l W then Some (Work x) else None
+meant l (x ∷ y ∷ []) = if eqb l F then Some (Format x y) else if eqb l R then Some (Read x y) else if eqb l A then Some (Allocate x y) else None
+meant l (x ∷ y ∷ z ∷ []) = if eqb l N then Some (StoreNumber x y z) else if eqb l S then Some (StoreReference x y z) else None
+meant l (x ∷ y ∷ z ∷ t ∷ ns) = None
 
 -- "a letter and decimal numbers, parted by single spaces"
-unfoldable pub named : List ℕ → List (List ℕ) → Command
-named [] ps = Broken
-named (l ∷ []) ps = if all_numbers ps then meant l (values ps) else Broken
-named (l ∷ k ∷ xs) ps = Broken
+unfoldable pub named : List ℕ → List (List ℕ) → Option Command
+named [] ps = None
+named (l ∷ []) ps = if all_numbers ps then meant l (values ps) else None
+named (l ∷ k ∷ xs) ps = None
 
 -- "or is over 40 bytes"
-unfoldable pub command_of : List ℕ → Command
-command_of text = if leb (length text) 40 then named (piece text) (later text) else Broken
+unfoldable pub command_of : List ℕ → Option Command
+command_of text = if leb (length text) 40 then named (piece text) (later text) else None
 
-abbrev pub numbers : ℕ → ℕ → ℕ → ℕ → Numbers
-numbers n x y z = record { count = n; x = x; y = y; z = z }
-
-abbrev pub packed : List ℕ → Numbers
-packed [] = numbers 0 0 0 0
-packed (x ∷ []) = numbers 1 x 0 0
-packed (x ∷ y ∷ []) = numbers 2 x y 0
-packed (x ∷ y ∷ z ∷ []) = numbers 3 x y z
-packed (x ∷ y ∷ z ∷ t ∷ ns) = numbers 4 x y z
-
-unfoldable pub arguments_of : List (List ℕ) → Arguments
-arguments_of ps = if all_numbers ps then Are (packed (values ps)) else NoArguments
+abbrev pub NumbersOf : List (List ℕ) → Option ℕ → List ℕ → Type 0
+NumbersOf ps r ns =
+    MatchOption r
+    (all_numbers ps ≡ true → 3 < length (values ps))
+    (λ n. (n ≤ 3) × (all_numbers ps ≡ true) × (take n ns ≡ values ps))

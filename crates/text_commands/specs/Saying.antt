@@ -10,7 +10,7 @@ use Rattle.machine.specs.Heap.{Heap, heap}
 use Rattle.machine.specs.Answers.{Given, ReadGiven}
 use Rattle.text_commands.specs.declared.Said.{Said}
 use Rattle.text_commands.specs.declared.Command.{Command}
-use Rattle.text_commands.specs.declared.Command.TheVariants.{Format, Read, StoreNumber, StoreReference, SetRoot, Allocate, Work, Audit, Broken}
+use Rattle.text_commands.specs.declared.Command.TheVariants.{Format, Read, StoreNumber, StoreReference, SetRoot, Allocate, Work, Audit}
 
 pub record Spoken : Type 0 where
   pub first : ℕ
@@ -42,4 +42,3 @@ blocks_of (SetRoot t) r = r.blocks
 blocks_of (Allocate b w) r = r.blocks
 blocks_of (Work n) r = r.blocks
 blocks_of Audit r = r.blocks
-blocks_of Broken r = r.blocks

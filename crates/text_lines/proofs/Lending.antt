@@ -12,6 +12,7 @@ use lib.Dec.{leb}
 use lib.ListN.{length, take, drop, drop_of_length-le, length-take}
 use lib.Seq.{take_all, take-length, drop-length}
 use borrow.Author.Tests.{leb-true, leb-false}
+use Rattle.std.specs.Prelude.{Some}
 use Rattle.machine.specs.declared.Regs.{Regs}
 use Rattle.machine.specs.Heap.{Heap, heap}
 use Rattle.text_commands.specs.declared.Said.{Said}
@@ -50,7 +51,7 @@ module _ (n : ℕ) (l : List ℕ) where
       (λ h. ap (λ (k : ℕ). drop k l) ((least e).0 h))
       (λ h. ap (λ (k : ℕ). drop k l) ((least e).1 h) ∙ drop-length l ∙ sym (drop_of_length-le l h))
 
-module _ (r : Regs) (ws cs bs : List ℕ) (text : List ℕ) (c : Command) (m a b d : ℕ) (e : c ≡ command_of text) (f : m ≡ blocks_of c r) (p : a ≡ min (8 * m) (length ws)) (q : b ≡ min m (length cs)) (t : d ≡ min m (length bs)) where
+module _ (r : Regs) (ws cs bs : List ℕ) (text : List ℕ) (c : Command) (m a b d : ℕ) (e : Some c ≡ command_of text) (f : m ≡ blocks_of c r) (p : a ≡ min (8 * m) (length ws)) (q : b ≡ min m (length cs)) (t : d ≡ min m (length bs)) where
   pub lends :
       (s : Said) (xs ds es : List ℕ) → said s xs ds es ≡ performed c (heap r (take a ws) (take b cs) (take d bs))
       → said s (xs ++ drop a ws) (ds ++ drop b cs) (es ++ drop d bs) ≡ line_gives text (heap r ws cs bs)

@@ -10,6 +10,7 @@ use mathlib.Core.List.{List}
 use native.Mathlib.Omega.{arith}
 use lib.ListN.{length, take, take-append-drop, length-take}
 use borrow.Author.Tests.{ne_eqb, lt-leb}
+use Rattle.std.specs.Prelude.{Option, Some, None}
 use Rattle.machine.specs.Heap.{Heap}
 use Rattle.machine.specs.Tests.{◌▷◌}
 use Rattle.machine.specs.Entry.{numbers_fit, lengths_fit, fits, entry}
@@ -21,7 +22,7 @@ use Rattle.machine.specs.Allocate.{allocate}
 use Rattle.machine.specs.Work.{work}
 use Rattle.machine.specs.Audit.{passes, audit}
 use Rattle.text_commands.specs.declared.Command.{Command}
-use Rattle.text_commands.specs.declared.Command.TheVariants.{Format, Read, StoreNumber, StoreReference, SetRoot, Allocate, Work, Audit, Broken}
+use Rattle.text_commands.specs.declared.Command.TheVariants.{Format, Read, StoreNumber, StoreReference, SetRoot, Allocate, Work, Audit}
 use Rattle.text_commands.specs.Command.{command_of}
 use Rattle.text_commands.specs.Saying.{Spoken, spoken, blocks_of}
 use Rattle.text_lines.specs.Line.{performed, front, back, within, line_gives}
@@ -42,9 +43,9 @@ stays : (m a b c : ℕ) (h : Heap) → back m h (spoken a b c (front m h)) ≡ s
 unfolding front back
 stays m a b c h = simp take-append-drop
 
-gives : (text : List ℕ) (h : Heap) (c : Command) → command_of text ≡ c → line_gives text h ≡ within (blocks_of c h.regs) (performed c) h
+gives_what : (text : List ℕ) (h : Heap) (c : Command) → command_of text ≡ Some c → line_gives text h ≡ within (blocks_of c h.regs) (performed c) h
 unfolding line_gives
-gives text h c e = rw e refl
+gives_what text h c e = rw e refl
 
 -- a call that is refused by 1
 refused : (c : Command) (h : Heap) → performed c (front (blocks_of c h.regs) h) ≡ spoken 1 0 0 (front (blocks_of c h.regs) h) → within (blocks_of c h.regs) (performed c) h ≡ spoken 1 0 0 h
@@ -95,38 +96,38 @@ module _ (h : Heap) (z : h.regs.blocks ≡ 0) where
   unfolding performed audit passes
   audit_none = simp one
 
-unformatted : (text : List ℕ) (h : Heap) → h.regs.blocks ≡ 0 → command_of text ≢ Broken → command_of text ≢ Audit → ((m u : ℕ) → command_of text ≢ Format m u) → line_gives text h ≡ spoken 1 0 0 h
+unformatted : (text : List ℕ) (h : Heap) → h.regs.blocks ≡ 0 → command_of text ≢ None → command_of text ≢ Some Audit → ((m u : ℕ) → command_of text ≢ Some (Format m u)) → line_gives text h ≡ spoken 1 0 0 h
 unfolding front
 unformatted text h z b a f = go (command_of text) refl
   where
-    go : (c : Command) → command_of text ≡ c → line_gives text h ≡ spoken 1 0 0 h
-    go (Format m u) e = absurd (f m u e)
-    go (Read x w) e = gives text h _ e ∙ refused (Read x w) h (read_one (front h.regs.blocks h) z x w)
-    go (StoreNumber x w v) e = gives text h _ e ∙ refused (StoreNumber x w v) h (number_one (front h.regs.blocks h) z x w v)
-    go (StoreReference x w t) e =
-        gives text h _ e ∙ refused (StoreReference x w t) h (reference_one (front h.regs.blocks h) z x w t)
-    go (SetRoot t) e = gives text h _ e ∙ refused (SetRoot t) h (root_one (front h.regs.blocks h) z t)
-    go (Allocate x w) e = gives text h _ e ∙ refused (Allocate x w) h (allocate_one (front h.regs.blocks h) z x w)
-    go (Work n) e = gives text h _ e ∙ refused (Work n) h (work_one (front h.regs.blocks h) z n)
-    go Audit e = absurd (a e)
-    go Broken e = absurd (b e)
+    go : (c : Option Command) → command_of text ≡ c → line_gives text h ≡ spoken 1 0 0 h
+    go (Some (Format m u)) e = absurd (f m u e)
+    go (Some (Read x w)) e = gives_what text h _ e ∙ refused (Read x w) h (read_one (front h.regs.blocks h) z x w)
+    go (Some (StoreNumber x w v)) e = gives_what text h _ e ∙ refused (StoreNumber x w v) h (number_one (front h.regs.blocks h) z x w v)
+    go (Some (StoreReference x w t)) e =
+        gives_what text h _ e ∙ refused (StoreReference x w t) h (reference_one (front h.regs.blocks h) z x w t)
+    go (Some (SetRoot t)) e = gives_what text h _ e ∙ refused (SetRoot t) h (root_one (front h.regs.blocks h) z t)
+    go (Some (Allocate x w)) e = gives_what text h _ e ∙ refused (Allocate x w) h (allocate_one (front h.regs.blocks h) z x w)
+    go (Some (Work n)) e = gives_what text h _ e ∙ refused (Work n) h (work_one (front h.regs.blocks h) z n)
+    go (Some Audit) e = absurd (a e)
+    go None e = absurd (b e)
 
-audits : (text : List ℕ) (h : Heap) → h.regs.blocks ≡ 0 → command_of text ≡ Audit → line_gives text h ≡ spoken 0 0 0 h
+audits : (text : List ℕ) (h : Heap) → h.regs.blocks ≡ 0 → command_of text ≡ Some Audit → line_gives text h ≡ spoken 0 0 0 h
 unfolding front
 audits text h z e =
-    gives text h _ e
+    gives_what text h _ e
     ∙ ap (back h.regs.blocks h) (audit_none (front h.regs.blocks h) z)
     ∙ stays h.regs.blocks 0 0 0 h
 
-breaks : (text : List ℕ) (h : Heap) → command_of text ≡ Broken → line_gives text h ≡ spoken 99 0 0 h
-unfolding performed
-breaks text h e = gives text h _ e ∙ stays h.regs.blocks 99 0 0 h
+breaks : (text : List ℕ) (h : Heap) → command_of text ≡ None → line_gives text h ≡ spoken 99 0 0 h
+unfolding line_gives
+breaks text h e = rw e refl
 
 pub rules : Rules
 rules =
     record {
       broken = breaks;
-      greatest = λ text h m u g e l. gives text h _ e ∙ refused (Format m u) h (over m u h g l);
+      greatest = λ text h m u g e l. gives_what text h _ e ∙ refused (Format m u) h (over m u h g l);
       first = unformatted;
       audited = audits;
     }

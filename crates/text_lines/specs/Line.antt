@@ -2,9 +2,10 @@
 --     performed c h        what the command c gives on the heap h
 --     front m h, back m h s     the parts of the lent buffers that m blocks take, and the buffers with those parts back
 --     within m f h         f on those parts
+--     gives c h            what a line gives that asks for c, if for anything
 --     line_gives text h     what a line gives
 -- Assumes nothing.
-use Rattle.std.specs.Prelude.{ℕ, ◌*◌, List, ◌++◌, take, drop}
+use Rattle.std.specs.Prelude.{ℕ, ◌*◌, List, ◌++◌, take, drop, Option, Some, None}
 use Rattle.machine.specs.Heap.{Heap, heap}
 use Rattle.machine.specs.Format.{format}
 use Rattle.machine.specs.Read.{read}
@@ -13,7 +14,7 @@ use Rattle.machine.specs.Allocate.{allocate}
 use Rattle.machine.specs.Work.{work}
 use Rattle.machine.specs.Audit.{audit}
 use Rattle.text_commands.specs.declared.Command.{Command}
-use Rattle.text_commands.specs.declared.Command.TheVariants.{Format, Read, StoreNumber, StoreReference, SetRoot, Allocate, Work, Audit, Broken}
+use Rattle.text_commands.specs.declared.Command.TheVariants.{Format, Read, StoreNumber, StoreReference, SetRoot, Allocate, Work, Audit}
 use Rattle.text_commands.specs.Command.{command_of}
 use Rattle.text_commands.specs.Saying.{Spoken, spoken, plainly, reading, blocks_of}
 
@@ -26,7 +27,6 @@ performed (SetRoot t) h = plainly (set_root t h)
 performed (Allocate b w) h = plainly (allocate b w h)
 performed (Work n) h = plainly (work n h)
 performed Audit h = plainly (audit h)
-performed Broken h = spoken 99 0 0 h
 
 -- the calls want buffers of exactly 8M, M and M; where the lent ones are shorter, the parts are all that is there
 unfoldable pub front : ℕ → Heap → Heap
@@ -44,5 +44,10 @@ back m h s =
 abbrev pub within : ℕ → (Heap → Spoken) → Heap → Spoken
 within m f h = back m h (f (front m h))
 
+-- "a line that breaks this .. prints `99 0 0` and does nothing"
+abbrev pub gives : Option Command → Heap → Spoken
+gives (Some c) h = within (blocks_of c h.regs) (performed c) h
+gives None h = spoken 99 0 0 h
+
 unfoldable pub line_gives : List ℕ → Heap → Spoken
-line_gives text h = within (blocks_of (command_of text) h.regs) (performed (command_of text)) h
+line_gives text h = gives (command_of text) h

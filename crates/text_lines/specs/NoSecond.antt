@@ -4,10 +4,10 @@
 --     Greatest h           the lent buffers are those of 1,024 blocks
 --     Rules                the sentences of document 01
 -- Assumes nothing.
-use Rattle.std.specs.Prelude.{ℕ, ◌<◌, ◌≡◌, ◌≢◌, List, length}
+use Rattle.std.specs.Prelude.{ℕ, ◌<◌, ◌≡◌, ◌≢◌, List, length, Some, None}
 use Rattle.machine.specs.Heap.{Heap}
 use Rattle.text_commands.specs.declared.Said.{Said}
-use Rattle.text_commands.specs.declared.Command.TheVariants.{Format, Audit, Broken}
+use Rattle.text_commands.specs.declared.Command.TheVariants.{Format, Audit}
 use Rattle.text_commands.specs.Command.{command_of}
 use Rattle.text_commands.specs.Saying.{spoken, said}
 use Rattle.text_lines.specs.Line.{line_gives}
@@ -30,12 +30,12 @@ pub record Greatest (h : Heap) : Type 0 where
 
 pub record Rules : Type 0 where
   -- "prints `99 0 0` and does nothing"
-  pub broken : (text : List ℕ) (h : Heap) → command_of text ≡ Broken → line_gives text h ≡ spoken 99 0 0 h
+  pub broken : (text : List ℕ) (h : Heap) → command_of text ≡ None → line_gives text h ≡ spoken 99 0 0 h
   -- "Its M is at most 1,024, else 1 and the heap stays"
-  pub greatest : (text : List ℕ) (h : Heap) (m u : ℕ) → Greatest h → command_of text ≡ Format m u → 1024 < m → line_gives text h ≡ spoken 1 0 0 h
+  pub greatest : (text : List ℕ) (h : Heap) (m u : ℕ) → Greatest h → command_of text ≡ Some (Format m u) → 1024 < m → line_gives text h ≡ spoken 1 0 0 h
   -- "before a first F that answers 0 every call but F and C prints `1 0 0`", and leaves the heap as it is
   pub first :
-      (text : List ℕ) (h : Heap) → h.regs.blocks ≡ 0 → command_of text ≢ Broken → command_of text ≢ Audit
-      → ((m u : ℕ) → command_of text ≢ Format m u) → line_gives text h ≡ spoken 1 0 0 h
+      (text : List ℕ) (h : Heap) → h.regs.blocks ≡ 0 → command_of text ≢ None → command_of text ≢ Some Audit
+      → ((m u : ℕ) → command_of text ≢ Some (Format m u)) → line_gives text h ≡ spoken 1 0 0 h
   -- "and C prints `0 0 0`"
-  pub audited : (text : List ℕ) (h : Heap) → h.regs.blocks ≡ 0 → command_of text ≡ Audit → line_gives text h ≡ spoken 0 0 0 h
+  pub audited : (text : List ℕ) (h : Heap) → h.regs.blocks ≡ 0 → command_of text ≡ Some Audit → line_gives text h ≡ spoken 0 0 0 h

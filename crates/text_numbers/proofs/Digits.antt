@@ -1,114 +1,132 @@
--- Laws of reading a number byte by byte: what is read so far, and what is still to come.
---     read_on k n xs at     what the piece xs, which starts at the place at, goes on to make of k digits of value n
---     piece_on, piece_space, piece_end     the piece at a place: a byte that isn't a space, a space, the end of the text
---     read_start           a number is read from no digits on
---     read_digit           a digit is read
---     read_space, read_end     the number ends at a space, at the end of the text
---     read_under, read_above     a byte that is neither a digit nor a space
---     read_over            a number that doesn't fit 32 bits
+-- Laws of finding a piece and of reading it byte by byte: what is read so far, and what is still to come.
+--     piece_found          the bytes before the first space
+--     Reading              what holds from digit to digit: the piece's digits and its value are those still to come, after n
+--     reads_on, reads_off, reads_all     a digit more, another byte, the end
+--     empty_piece, long_piece, no_digits     pieces that are no number
+--     no_text, rest_is, number_is     a place past the text, what stands from a place on, the number there
 -- Assumes nothing.
-use Prim.Native.Nat.{ℕ, suc, ◌+◌, ◌-◌, ◌*◌, ◌≤◌, ◌<◌}
+use Prim.Native.Nat.{ℕ, suc, ◌+◌, ◌-◌, ◌*◌, ◌^◌, ◌≤◌, ◌<◌}
 use mathlib.Core.Path.{◌≡◌, refl, sym, ◌∙◌, ap}
-use mathlib.Core.Logic.{◌≢◌}
-use mathlib.Core.Bool.{Bool, true, false, ◌&&◌}
+use mathlib.Core.Bool.{Bool, true, false, cond}
 use mathlib.Core.List.{List, [], ◌∷◌}
 use native.Mathlib.Omega.{arith}
-use native.Mathlib.Nat.{zero-add, add-zero}
 use native.Mathlib.Numerals.{add-one}
-use lib.Dec.{leb}
-use lib.ListN.{length, get_or, drop, drop_of_length-le}
-use lib.Seq.{drop-cons}
-use borrow.Author.Tests.{eq-eqb, ne_eqb, le-leb, lt-leb}
-use Rattle.std.specs.Prelude.{if◌then◌else◌}
-use Rattle.text_numbers.specs.declared.Number.{Number}
-use Rattle.text_numbers.specs.declared.Number.TheVariants.{Whole, Broken}
-use Rattle.text_numbers.specs.Numbers.{space, piece, is_digit, all_digits, value, is_number, number_at}
+use lib.Dec.{eqb, leb, ltb}
+use lib.ListN.{length, get_or, take, drop, length-drop, drop_of_length-le}
+use lib.Seq.{drop-cons, take_all}
+use borrow.Author.Tests.{le-leb, lt-leb, leb-true, leb-false, ltb-false}
+use Rattle.std.proofs.Math.Nat.{pow-succ'}
+use Rattle.std.proofs.lemmas.Bool.{false≢true}
+use mathlib.Core.Logic.{◌≢◌}
+use Rattle.std.specs.Prelude.{Option, Some, None, if◌then◌else◌}
+use Rattle.std.specs.List.{position_or_len, slice_range}
+use Rattle.std.specs.Option.{unwrap_or}
+use Rattle.text_numbers.specs.Numbers.{piece, is_digit, all_digits, value, is_number, number_at}
 
-unfoldable pub read_on : ℕ → ℕ → List ℕ → ℕ → Number
-read_on k n xs at =
-    if all_digits xs && ((leb 1 (k + length xs) && leb (k + length xs) 10) && leb (value n xs) 4294967295)
-    then Whole (value n xs) (record { at = at + length xs })
-    else Broken
+before_space : (xs : List ℕ) → take (position_or_len (λ x. eqb x 32) xs) xs ≡ piece xs
+unfolding piece
+before_space [] = refl
+before_space (x ∷ xs) = go (before_space xs) (eqb x 32) refl
+  where
+    go : take (position_or_len (λ y. eqb y 32) xs) xs ≡ piece xs → (t : Bool) → eqb x 32 ≡ t → take (position_or_len (λ y. eqb y 32) (x ∷ xs)) (x ∷ xs) ≡ piece (x ∷ xs)
+    go i true e = simp e
+    go i false e =
+        let one : 1 + position_or_len (λ y. eqb y 32) xs ≡ suc (position_or_len (λ y. eqb y 32) xs) = omega arith in
+        simp e (ap (λ (k : ℕ). take k (x ∷ xs)) one ∙ ap (λ (ys : List ℕ). x ∷ ys) i)
 
-value_grows : (n : ℕ) (xs : List ℕ) → n ≤ value n xs
-unfolding value
-value_grows n [] = omega arith
-value_grows n (x ∷ xs) = let h = value_grows (10 * n + (x - 48)) xs in omega arith
+pub piece_found :
+    (xs : List ℕ) (r : Option ℕ) (n : ℕ) → r ≡ cond (ltb (position_or_len (λ x. eqb x 32) xs) (length xs)) (Some (position_or_len (λ x. eqb x 32) xs)) None → n ≡ unwrap_or r (length xs)
+    → take n xs ≡ piece xs
+piece_found xs r n e f = go (ltb place (length xs)) refl
+  where
+    place : ℕ
+    place = position_or_len (λ x. eqb x 32) xs
 
+    go : (t : Bool) → ltb (position_or_len (λ x. eqb x 32) xs) (length xs) ≡ t → take n xs ≡ piece xs
+    go true q = let g = simp q at e in rw (f, g) (before_space xs)
+    go false q =
+        let g = simp q at e in
+        rw (f, g) (take_all (length xs) xs (omega arith) ∙ sym (take_all (position_or_len (λ x. eqb x 32) xs) xs (ltb-false _ _ q)) ∙ before_space xs)
+
+never_none : {n : ℕ} → Some n ≡ None → ⊥
+never_none e = cc
+
+eqb_digit : {x : ℕ} → is_digit x ≡ true → (48 ≤ x) × (x ≤ 57)
+unfolding is_digit
+eqb_digit {x} e = go (leb 48 x) refl (leb x 57) refl
+  where
+    go : (a : Bool) → leb 48 x ≡ a → (b : Bool) → leb x 57 ≡ b → (48 ≤ x) × (x ≤ 57)
+    go true p true q = (leb-true 48 x p, leb-true x 57 q)
+    go true p false q = let z = simp (p, q) at e in absurd (false≢true z)
+    go false p b q = let z = simp p at e in absurd (false≢true z)
+
+pub record Reading (whole : List ℕ) (i n : ℕ) : Type 0 where
+  pub digits : all_digits whole ≡ all_digits (drop i whole)
+  pub worth : value 0 whole ≡ value n (drop i whole)
+  pub bound : n < 10 ^ i
+
+module _ (xs : List ℕ) (i n : ℕ) (r : Reading xs i n) where
+  pub reads_on : {d : ℕ} → i < length xs → is_digit (get_or xs i 0) ≡ true → d ≡ get_or xs i 0 - 48 → Reading xs (i + 1) (10 * n + d)
+  unfolding all_digits value is_digit
+  reads_on {d} l t e =
+      record {
+        digits = r.digits ∙ ap all_digits (drop-cons xs i 0 l) ∙ simp t (rw add-one refl);
+        worth = r.worth ∙ ap (value n) (drop-cons xs i 0 l) ∙ rw (e, add-one) refl;
+        bound =
+            let p : 10 ^ suc i ≡ 10 * 10 ^ i = pow-succ' 10 i in
+            rw add-one (omega (arith, p, r.bound, eqb_digit {x = get_or xs i 0} t, e));
+      }
+
+  pub reads_off : i < length xs → is_digit (get_or xs i 0) ≡ false → all_digits xs ≡ false
+  unfolding all_digits
+  reads_off l t = r.digits ∙ ap all_digits (drop-cons xs i 0 l) ∙ simp t
+
+  pub reads_all : (o : Option ℕ) → length xs ≤ i → length xs ≢ 0 → length xs ≤ 10 → (n < 2 ^ 32 → o ≡ Some n) → (2 ^ 32 ≤ n → o ≡ None) → o ≡ (if is_number xs then Some (value 0 xs) else None)
+  unfolding all_digits value is_number
+  reads_all o l a b f g = go (leb n 4294967295) refl
+    where
+      digits : all_digits xs ≡ true
+      digits = r.digits ∙ ap all_digits (drop_of_length-le xs l)
+
+      worth : value 0 xs ≡ n
+      worth = r.worth ∙ ap (value n) (drop_of_length-le xs l)
+
+      go : (t : Bool) → leb n 4294967295 ≡ t → o ≡ (if is_number xs then Some (value 0 xs) else None)
+      go true q = f (let h = leb-true n 4294967295 q in omega arith) ∙ simp (digits, worth, le-leb 1 (length xs) (omega arith), le-leb (length xs) 10 b, q)
+      go false q = g (let h = leb-false n 4294967295 q in omega arith) ∙ simp (digits, worth, le-leb 1 (length xs) (omega arith), le-leb (length xs) 10 b, q)
+
+pub empty_piece : (xs : List ℕ) → length xs ≡ 0 → None ≡ (if is_number xs then Some (value 0 xs) else None)
+unfolding is_number all_digits
+empty_piece [] e = refl
+empty_piece (x ∷ xs) e = absurd (omega arith)
+
+pub long_piece : (xs : List ℕ) → 10 < length xs → None ≡ (if is_number xs then Some (value 0 xs) else None)
+unfolding is_number
+long_piece xs l = go (all_digits xs) refl
+  where
+    go : (t : Bool) → all_digits xs ≡ t → None ≡ (if is_number xs then Some (value 0 xs) else None)
+    go true q = simp (q, le-leb 1 (length xs) (omega arith), lt-leb (length xs) 10 l)
+    go false q = simp q
+
+pub no_digits : (xs : List ℕ) → all_digits xs ≡ false → None ≡ (if is_number xs then Some (value 0 xs) else None)
+unfolding is_number
+no_digits xs e = simp e
+
+-- a number at a place
 module _ (text : List ℕ) (at : ℕ) where
-  pub piece_on : at < length text → get_or text at 0 ≢ space → piece (drop at text) ≡ get_or text at 0 ∷ piece (drop (at + 1) text)
-  unfolding piece
-  piece_on l e = rw (add-one, drop-cons text at 0 l) (simp (ne_eqb (get_or text at 0) 32 e))
+  pub no_text : length text < at → None ≡ number_at text at
+  unfolding number_at piece is_number all_digits
+  no_text l = let m : length text ≤ at = omega arith in rw (drop_of_length-le text m) refl
 
-  pub piece_space : at < length text → get_or text at 0 ≡ space → piece (drop at text) ≡ []
-  unfolding piece
-  piece_space l e = rw (drop-cons text at 0 l) (simp (eq-eqb (get_or text at 0) 32 e))
+  pub rest_is : {r : List ℕ} → r ≡ slice_range text at (length text) → r ≡ drop at text
+  rest_is e = e ∙ take_all (length text - at) (drop at text) (let d = length-drop at text in omega arith)
 
-  pub piece_end : length text ≤ at → piece (drop at text) ≡ []
-  unfolding piece
-  piece_end l = rw (drop_of_length-le text l) refl
-
-  pub read_start : {k : ℕ} → k ≡ 0 → number_at text at ≡ read_on k 0 (piece (drop at text)) at
-  unfolding number_at is_number read_on
-  read_start e = rw e (simp zero-add)
-
-no_more : (k n at : ℕ) → n ≤ 4294967295 → (if leb 1 k && leb k 10 then Whole n (record { at = at }) else Broken) ≡ read_on k n [] at
-unfolding read_on all_digits value
-no_more k n at l = go (leb 1 k) refl (leb k 10) refl
-  where
-    go : (a : Bool) → leb 1 k ≡ a → (b : Bool) → leb k 10 ≡ b → (if leb 1 k && leb k 10 then Whole n (record { at = at }) else Broken) ≡ read_on k n [] at
-    go true p true q = simp (add-zero, p, q, le-leb n 4294967295 l)
-    go true p false q = simp (add-zero, p, q)
-    go false p b q = simp (add-zero, p)
-
-one_digit : (k n x at : ℕ) (xs : List ℕ) → 48 ≤ x → x ≤ 57 → read_on k n (x ∷ xs) at ≡ read_on (k + 1) (10 * n + (x - 48)) xs (at + 1)
-unfolding read_on all_digits value is_digit
-one_digit k n x at xs a b =
-    let e : k + suc (length xs) ≡ k + 1 + length xs = omega arith in
-    let f : at + suc (length xs) ≡ at + 1 + length xs = omega arith in
-    simp (le-leb 48 x a, le-leb x 57 b, e, f)
-
-no_digit : (k n x at : ℕ) (xs : List ℕ) → is_digit x ≡ false → Broken ≡ read_on k n (x ∷ xs) at
-unfolding read_on all_digits
-no_digit k n x at xs e = simp e
-
-over : (k n at : ℕ) (xs : List ℕ) → 4294967295 < n → Broken ≡ read_on k n xs at
-unfolding read_on
-over k n at xs h = go (all_digits xs) refl (leb 1 (k + length xs) && leb (k + length xs) 10) refl
-  where
-    big : leb (value n xs) 4294967295 ≡ false
-    big = lt-leb (value n xs) 4294967295 (omega (arith, value_grows n xs))
-
-    go : (a : Bool) → all_digits xs ≡ a → (b : Bool) → (leb 1 (k + length xs) && leb (k + length xs) 10) ≡ b → Broken ≡ read_on k n xs at
-    go true p true q = simp (p, q, big)
-    go true p false q = simp (p, q)
-    go false p b q = simp p
-
-module _ (text : List ℕ) (at k n : ℕ) (t : Number) (i : t ≡ read_on k n (piece (drop at text)) at) where
-  pub read_space : {r : Number} → at < length text → get_or text at 0 ≡ space → n ≤ 4294967295 → r ≡ (if leb 1 k && leb k 10 then Whole n (record { at = at }) else Broken) → r ≡ t
-  read_space l e h f = f ∙ no_more k n at h ∙ sym (rw (piece_space text at l e) at i)
-
-  pub read_end : {r : Number} → length text ≤ at → n ≤ 4294967295 → r ≡ (if leb 1 k && leb k 10 then Whole n (record { at = at }) else Broken) → r ≡ t
-  read_end l h f = f ∙ no_more k n at h ∙ sym (rw (piece_end text at l) at i)
-
-  pub read_digit :
-      (j d : ℕ) → j ≡ k + 1 → d ≡ get_or text at 0 - 48 → at < length text → get_or text at 0 ≢ space → 48 ≤ get_or text at 0 → get_or text at 0 ≤ 57
-      → t ≡ read_on j (10 * n + d) (piece (drop (at + 1) text)) (at + 1)
-  read_digit j d e f l s a b = rw (e, f) (i ∙ ap (λ (p : List ℕ). read_on k n p at) (piece_on text at l s) ∙ one_digit k n _ at _ a b)
-
-  pub read_under : at < length text → get_or text at 0 ≢ space → get_or text at 0 < 48 → Broken ≡ t
-  unfolding is_digit
-  read_under l s a =
-      no_digit k n _ at _ (simp (lt-leb 48 (get_or text at 0) a)) ∙ ap (λ (p : List ℕ). read_on k n p at) (sym (piece_on text at l s)) ∙ sym i
-
-  pub read_above : at < length text → get_or text at 0 ≢ space → 48 ≤ get_or text at 0 → 57 < get_or text at 0 → Broken ≡ t
-  unfolding is_digit
-  read_above l s a b =
-      no_digit k n _ at _ (simp (le-leb 48 (get_or text at 0) a, lt-leb (get_or text at 0) 57 b))
-      ∙ ap (λ (p : List ℕ). read_on k n p at) (sym (piece_on text at l s))
-      ∙ sym i
-
-  pub read_over :
-      at < length text → get_or text at 0 ≢ space → 48 ≤ get_or text at 0 → get_or text at 0 ≤ 57
-      → 4294967295 < 10 * n + (get_or text at 0 - 48) → Broken ≡ t
-  read_over l s a b h = over (k + 1) _ (at + 1) _ h ∙ sym (read_digit (k + 1) _ refl refl l s a b)
+  pub number_is :
+      (xs : List ℕ) (o : Option ℕ) → xs ≡ piece (drop at text) → o ≡ (if is_number xs then Some (value 0 xs) else None)
+      → (o ≡ None → None ≡ number_at text at) × ((v : ℕ) → o ≡ Some v → Some (record { value = v; end = record { at = at + length xs } }) ≡ number_at text at)
+  unfolding number_at
+  number_is xs o e f = go (is_number xs) refl
+    where
+      go : (t : Bool) → is_number xs ≡ t → (o ≡ None → None ≡ number_at text at) × ((v : ℕ) → o ≡ Some v → Some (record { value = v; end = record { at = at + length xs } }) ≡ number_at text at)
+      go true q = let g = simp q at f in (λ h. absurd (never_none (sym g ∙ h)), λ v h. rw (← e) (simp q (ap (λ (w : ℕ). Some (record { value = w; end = record { at = at + length xs } })) (cc))))
+      go false q = let g = simp q at f in (λ _. rw (← e) (simp q), λ v h. absurd (never_none (sym h ∙ g)))

@@ -9,9 +9,8 @@
 --     number_at text at     what reading a number at a place finds
 -- Two spaces in a row have an empty piece between them, and an empty piece is no number.
 -- Assumes nothing.
-use Rattle.std.specs.Prelude.{ℕ, ◌+◌, ◌-◌, ◌*◌, Bool, true, ◌&&◌, List, [], ◌∷◌, eqb, leb, length, drop, if◌then◌else◌}
+use Rattle.std.specs.Prelude.{ℕ, ◌+◌, ◌-◌, ◌*◌, Bool, true, ◌&&◌, List, [], ◌∷◌, Option, Some, None, eqb, leb, length, drop, if◌then◌else◌}
 use Rattle.text_numbers.specs.declared.Number.{Number}
-use Rattle.text_numbers.specs.declared.Number.TheVariants.{Whole, Broken}
 
 abbrev pub space : ℕ
 space = 32
@@ -39,8 +38,8 @@ value n (x ∷ xs) = value (10 * n + (x - 48)) xs
 unfoldable pub is_number : List ℕ → Bool
 is_number xs = all_digits xs && ((leb 1 (length xs) && leb (length xs) 10) && leb (value 0 xs) 4294967295)
 
-unfoldable pub number_at : List ℕ → ℕ → Number
+unfoldable pub number_at : List ℕ → ℕ → Option Number
 number_at text at =
     if is_number (piece (drop at text))
-    then Whole (value 0 (piece (drop at text))) (record { at = at + length (piece (drop at text)) })
-    else Broken
+    then Some (record { value = value 0 (piece (drop at text)); end = record { at = at + length (piece (drop at text)) } })
+    else None

@@ -1,9 +1,8 @@
 // Numbers in a line of text: reading them. What a text is parted into, and which parts are numbers, is in specs/.
 #![tactic(auto)]
 
-ghost use Rattle.std.specs.Prelude.{◌≡◌, ◌&&◌, ◌≤◌, leb, if◌then◌else◌};
-ghost use Rattle.text_numbers.specs.declared.Number.TheVariants.{Whole, Broken};
-ghost use Rattle.text_numbers.specs.Numbers.{number_at};
+ghost use Rattle.std.specs.Prelude.{◌≡◌, Some, None, if◌then◌else◌};
+ghost use Rattle.text_numbers.specs.Numbers.{piece, value, is_number, number_at};
 
 // The greatest number of 32 bits has so many digits.
 const MOST_DIGITS: usize = 10;
@@ -14,57 +13,46 @@ pub struct Cursor {
     pub at: usize,
 }
 
-// What reading a number finds: a number and the place where its digits end, or something else.
+// A number in a text, and the place where its digits end.
 #[derive(Clone, Copy)]
-pub enum Number {
-    Whole(u32, Cursor),
-    Broken,
+pub struct Number {
+    pub value: u32,
+    pub end: Cursor,
 }
 
-fn wide(x: u8) -> u64
-    ensures { result ≡ x }
+// The bytes up to the first space, or to the end.
+pub fn piece(text: &[u8]) -> &[u8]
+    ensures { result.now ≡ piece text.now }
 {
-    x as u64
+    let end = text.iter().position(|b| *b == b' ').unwrap_or(text.len());
+    &text[..end]
 }
 
-// The number n of so many digits, which end at the place.
-fn whole(n: u64, digits: usize, end: usize) -> Number
-    requires { n ≤ 4294967295 }
-    ensures { result ≡ (if leb 1 digits && leb digits 10 then Whole n (record { at = end }) else Broken) }
+// The number that a piece is, where it is one.
+fn number_of(piece: &[u8]) -> Option<u32>
+    ensures { result ≡ (if is_number piece.now then Some (value 0 piece.now) else None) }
 {
-    if digits == 0 {
-        return Number::Broken;
+    if piece.is_empty() || MOST_DIGITS < piece.len() {
+        return None;
     }
-    if MOST_DIGITS < digits {
-        return Number::Broken;
+    let mut n: u64 = 0;
+    for b in piece {
+        if !b.is_ascii_digit() {
+            return None;
+        }
+        n = 10 * n + u64::from(b - b'0');
     }
-    Number::Whole(n as u32, Cursor { at: end })
+    u32::try_from(n).ok()
 }
 
 // The number that starts at a place and ends at a space or at the end of the text.
-pub fn number_at(text: &[u8], start: Cursor) -> Number
+pub fn number_at(text: &[u8], start: Cursor) -> Option<Number>
     ensures { result ≡ number_at text.now start.at }
 {
-    let first = start.at;
-    let mut at = first;
-    let mut n: u64 = 0;
-    while at < text.len() {
-        let b = text[at];
-        if b == 32 {
-            return whole(n, at - first, at);
-        }
-        if b < 48 {
-            return Number::Broken;
-        }
-        if 57 < b {
-            return Number::Broken;
-        }
-        let more = 10 * n + wide(b - 48);
-        if 4294967295 < more {
-            return Number::Broken;
-        }
-        n = more;
-        at += 1;
-    }
-    whole(n, at - first, at)
+    let digits = piece(text.get(start.at..)?);
+    let value = number_of(digits)?;
+    let end = Cursor {
+        at: start.at + digits.len(),
+    };
+    Some(Number { value, end })
 }

@@ -1,6 +1,6 @@
 -- What waits to be written on standard output, in a buffer of 65,536 bytes.
 -- Document 01: "It prints answer, value, units". What is written lies outside the logic: here is what the buffer has of it.
---     Flushed              nothing waits any more, and what has failed stays failed
+--     Flushed              nothing waits any more, what has failed stays failed, and the buffer stays as it is
 --     Roomy                there is room for a number and a byte, 21 bytes: where there was none, what waited has been written
 --     Spelt                a number in decimal, in the fewest digits that hold it, and a byte, after what stands before a place
 --     Put                  the same after what waits, or at the buffer's start once that has been written
@@ -8,11 +8,12 @@
 -- Assumes nothing.
 use Rattle.std.specs.Prelude.{ℕ, ◌+◌, ◌≤◌, ◌<◌, ◌≡◌, false, List, [], ◌∷◌, ◌++◌, take}
 use Rattle.io.specs.Digits.{last_digits, IsDigitCount}
-use Rattle.text_output.specs.declared.Output.{Output}
+use Rattle.text_output.specs.declared.waiting.Output.{Output}
 
 pub record Flushed (o r : Output) : Type 0 where
   pub none : r.used ≡ 0
   pub ill : o.well ≡ false → r.well ≡ false
+  pub same : r.buffer ≡ o.buffer
 
 pub record Roomy (o r : Output) : Type 0 where
   pub stays : o.used ≤ 65515 → r ≡ o
@@ -26,17 +27,15 @@ pub record Spelt (out : List ℕ) (at n stop r : ℕ) (after : List ℕ) : Type 
   pub fits : r ≤ 65536
   pub bytes : take r after ≡ take at out ++ (last_digits 10 places n ++ stop ∷ [])
 
-pub record Put (out : List ℕ) (o : Output) (n stop : ℕ) (r : Output) (after : List ℕ) : Type 0 where
+pub record Put (o : Output) (n stop : ℕ) (r : Output) : Type 0 where
   pub to : Output
   pub roomy : Roomy o to
-  pub spelt : Spelt out to.used n stop r.used after
+  pub spelt : Spelt to.buffer to.used n stop r.used r.buffer
   pub well : r.well ≡ to.well
 
-pub record PutThree (out : List ℕ) (o : Output) (x y z : ℕ) (r : Output) (after : List ℕ) : Type 0 where
+pub record PutThree (o : Output) (x y z : ℕ) (r : Output) : Type 0 where
   pub one : Output
   pub two : Output
-  pub out_one : List ℕ
-  pub out_two : List ℕ
-  pub first : Put out o x 32 one out_one
-  pub second : Put out_one one y 32 two out_two
-  pub third : Put out_two two z 10 r after
+  pub first : Put o x 32 one
+  pub second : Put one y 32 two
+  pub third : Put two z 10 r

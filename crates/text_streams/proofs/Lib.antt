@@ -1,3 +1,2 @@
 -- What is proved of streams alone.
 pub mod Cuts
-pub mod Reading

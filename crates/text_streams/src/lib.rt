@@ -3,15 +3,30 @@
 
 mod cutting; // cutting.rt: lines out of what was read
 mod input; // input.rt: reading
+mod reader; // reader.rt: the buffers, and where reading stands
 
-ghost use Rattle.std.specs.Prelude.{◌≡◌, ◌&&◌};
+ghost use Rattle.std.specs.Prelude.{◌≡◌};
 
-pub use input::{Input, Step, next, start};
+pub use reader::{Input, Reader};
 use text_output::Output;
 
-// Whether there is more to do: input may come, and no write has failed.
-pub fn goes_on(i: Input, o: Output) -> bool
-    ensures { result ≡ (i.more && o.well) }
+// Goes on until the input has come to its end or what is said can't be written: hands on each line, or None for a turn that ended none, and
+// writes out what waits in the end. A proved loop has to end, and nothing says that the input does: so it has as many turns as no run
+// uses up.
+pub fn drive<
+    const N: usize,
+    R: std::io::Input + Print + Eprint,
+    F: FnMut(Option<&[u8]>, &mut Output),
+>(rt: &R, reader: &mut Reader<N>, out: &mut Output, mut each: F)
+    requires { F.IsAlwaysCallable each }
+    ensures { out.new.used ≡ 0 }
 {
-    i.more && o.well
+    for _ in 0..u64::MAX {
+        if !reader.goes_on(out) {
+            break;
+        }
+        reader.next(rt, out);
+        each(reader.line(), out);
+    }
+    out.flush(rt);
 }
