@@ -15,15 +15,15 @@ use machine::{Answer, Regs};
 pub fn passes(r: Regs, words: &[u32], colours: &[u32], bytes: &[u8]) -> bool
     ensures { result ≡ passes (heap r words.now colours.now bytes.now) }
 {
-    if part_checks::entry(r, words, colours, bytes) == 0 {
-        return part_audit::passes(&Lent {
-            regs: r,
-            words,
-            colours,
-            bytes,
-        });
-    }
-    false
+    let Ok(()) = part_checks::entry(r, words, colours, bytes) else {
+        return false;
+    };
+    part_audit::passes(&Lent {
+        regs: r,
+        words,
+        colours,
+        bytes,
+    })
 }
 
 // Audit: 1 for a well-formed heap, else 0. It never refuses and changes nothing.

@@ -9,7 +9,7 @@ ghost use Rattle.machine.specs.Image.{colours_in, bytes_in, words_in};
 ghost use Rattle.machine.specs.Load.{load};
 ghost use Rattle.part_image_audit.specs.Laid.{Laid};
 
-use machine::{Outcome, Regs};
+use machine::{Outcome, Refusal, Regs};
 
 // The three buffers of m blocks, section by section.
 fn read(words: &mut [u32], colours: &mut [u32], bytes: &mut [u8], sections: &[u8], m: u32)
@@ -40,7 +40,7 @@ pub fn load(
             read(words, colours, bytes, sections, s.blocks);
             return part_checks::done(s, 0);
         }
-        return part_checks::refused(r, machine::BAD_LENGTH);
+        return part_checks::refused(r, Refusal::BadLength.into());
     }
-    part_checks::refused(r, machine::BAD_HEAP)
+    part_checks::refused(r, Refusal::BadHeap.into())
 }

@@ -6,19 +6,22 @@ ghost use Rattle.std.specs.Prelude.{◌≡◌, ◌++◌, ◌≤◌, length, drop
 ghost use Rattle.machine.specs.Heap.{heap};
 ghost use Rattle.machine.specs.Image.{numbers, registers_of, register_count, encode};
 ghost use Rattle.machine.specs.Frame.{blocks_at, image_length, Sized};
+ghost use Rattle.machine.specs.Refusal.{refused_by};
 ghost use Rattle.machine.specs.Save.{save};
 ghost use Rattle.part_image.specs.Placing.{placed};
 
-use machine::{Answer, Regs};
+use machine::{Answer, Refusal, Regs};
 
-// What Save answers: this refusal or 0, no value, no units.
-fn answer(refusal: u32) -> Answer
-    ensures { result ≡ (record { refusal = refusal; value = 0; units = 0 }) }
+// What Save answers: its refusal or 0, no value, no units.
+fn answer(saved: Result<(), Refusal>) -> Answer
+    ensures { result ≡ (record { refusal = refused_by saved; value = 0; units = 0 }) }
 {
-    Answer {
-        refusal,
-        value: 0,
-        units: 0,
+    match saved {
+        Ok(()) => Answer::default(),
+        Err(refusal) => Answer {
+            refusal: refusal.into(),
+            ..Answer::default()
+        },
     }
 }
 
@@ -57,12 +60,12 @@ pub fn save(r: Regs, words: &[u32], colours: &[u32], bytes: &[u8], out: &mut [u8
     if part_checks::fits(r.blocks, r.pace, words.len(), colours.len(), bytes.len()) {
         if call_audit::passes(r, words, colours, bytes) {
             if out.len() < part_image::frame::image_length(r.blocks as usize) {
-                return answer(machine::BAD_LENGTH);
+                return answer(Err(Refusal::BadLength));
             }
             write(r, words, colours, bytes, out);
-            return answer(0);
+            return answer(Ok(()));
         }
-        return answer(machine::BAD_HEAP);
+        return answer(Err(Refusal::BadHeap));
     }
-    answer(machine::UNFIT)
+    answer(Err(Refusal::Unfit))
 }

@@ -13,7 +13,7 @@ ghost use Rattle.machine.specs.Search.{path_numbers};
 ghost use Rattle.machine.specs.Why.{path_of, live_reason, reason_from, reason_of, padded, why, told, kept_number, reason_numbers, why_numbers};
 ghost use Rattle.call_why.specs.Numbers.{why_in_numbers};
 
-use machine::{Colour, Reason, Regs, State, Why, WhyNumbers};
+use machine::{Colour, Reason, Refusal, Regs, State, Why, WhyNumbers};
 
 // Whether the lent buffers are long enough for m blocks: two numbers a pair of the path, one a block in each working buffer.
 fn long_enough(m: u32, path: usize, queue: usize, came: usize) -> bool
@@ -123,16 +123,16 @@ pub fn why(
         ≡ why path.old queue.old came.old b (heap r words.now colours.now bytes.now) }
 {
     if !part_checks::fits(r.blocks, r.pace, words.len(), colours.len(), bytes.len()) {
-        return Err(machine::UNFIT);
+        return Err(Refusal::Unfit.into());
     }
     if !call_audit::passes(r, words, colours, bytes) {
-        return Err(machine::BAD_HEAP);
+        return Err(Refusal::BadHeap.into());
     }
     if !part_colours::is_block(r.blocks, b) {
-        return Err(machine::NO_PLACE);
+        return Err(Refusal::NoPlace.into());
     }
     if !long_enough(r.blocks, path.len(), queue.len(), came.len()) {
-        return Err(machine::BAD_LENGTH);
+        return Err(Refusal::BadLength.into());
     }
     let m = r.blocks as usize;
     let reason = reason(

@@ -88,17 +88,15 @@ pub fn dergamoyne_look(
 ) -> LookAnswer
     ensures { (result.refusal ≡ read_refusal b 0 (heap regs words.now colours.now bytes.now)) × (result.at ≡ look_index b (heap regs words.now colours.now bytes.now)) }
 {
-    let e = part_checks::entry(regs, words, colours, bytes);
-    let n = part_checks::read_refusal_after(e, regs, words, colours, bytes, b, 0);
-    if n != 0 {
-        return LookAnswer {
-            refusal: n,
-            at: 4294967295,
-        };
-    }
-    LookAnswer {
-        refusal: 0,
-        at: 8 * (b - 2),
+    match part_checks::read_refusal(regs, words, colours, bytes, b, 0) {
+        Ok(()) => LookAnswer {
+            refusal: 0,
+            at: 8 * (b - 2),
+        },
+        Err(refusal) => LookAnswer {
+            refusal: refusal.into(),
+            at: u32::MAX,
+        },
     }
 }
 

@@ -1,17 +1,17 @@
 -- `call_audit::passes` meets its contract. Assumes nothing.
-use Rattle.machine.proofs.Tests.{so}
+use mathlib.Core.Path.{sym, ◌∙◌}
 use Rattle.machine.proofs.Entering.{entry_ready}
 use Rattle.machine.proofs.Passing.{entry_no}
-use mathlib.Core.Path.{◌∙◌}
+use Rattle.machine.proofs.Refusals.{refuses, refused_so, unrefused}
 use Rattle.call_audit.proofs.passes.Goals as goal
 
-pub returns-then-entry-eq0 : goal.returns-then-entry-eq0
-returns-then-entry-eq0 c = c.passes.ensures (so c.entry.ensures c.if-entry-eq0.true)
-
-pub returns : goal.returns
-returns c = entry_no _ (λ z. c.if-entry-eq0.false (c.entry.ensures ∙ z))
+pub returns-in_default : goal.returns-in_default
+returns-in_default c = entry_no _ (λ z. refuses _ (refused_so c.entry.ensures c.in_default.is ∙ z))
 
 pub invariant_of-passes : goal.invariant_of-passes
 invariant_of-passes c =
-    let d = entry_ready _ (so c.entry.ensures c.if-entry-eq0.true) in
+    let d = entry_ready _ (unrefused c.entry.ensures c.in-Ok.is) in
     record { most = d.most; words_fit = d.words; colours_fit = d.colours; bytes_fit = d.bytes }
+
+pub returns : goal.returns
+returns c = c.passes.ensures (unrefused c.entry.ensures c.in-Ok.is)

@@ -38,7 +38,10 @@ returns-then-is_image c =
     let i = c.args.image.now in
     let t = so c.is_image.ensures c.if-is_image.true in
     let e = c.get_registers-s.ensures in
-    c.refused.ensures _ _ _ ∙ load_other i _ t (so (image_same i t e _ c.lengths_fit.ensures) c.if-lengths_fit.false)
+    rw c.into.ensures at (c.refused.ensures c.args.words.now c.args.colours.now c.args.bytes.now)
+    ∙ load_other i _ t (so (image_same i t e _ c.lengths_fit.ensures) c.if-lengths_fit.false)
 
 pub returns : goal.returns
-returns c = c.refused-2.ensures _ _ _ ∙ load_bad _ _ (so c.is_image.ensures c.if-is_image.false)
+returns c =
+    rw c.into-2.ensures at (c.refused-2.ensures c.args.words.now c.args.colours.now c.args.bytes.now)
+    ∙ load_bad _ _ (so c.is_image.ensures c.if-is_image.false)

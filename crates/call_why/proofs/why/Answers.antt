@@ -8,11 +8,11 @@ use Rattle.call_why.proofs.Ways.{long, part_length, cleared}
 use Rattle.call_why.proofs.why.Goals as goal
 
 pub returns-then-not-fits : goal.returns-then-not-fits
-returns-then-not-fits c = why_unfit _ _ _ _ _ (so c.fits.ensures c.if-not-fits.true)
+returns-then-not-fits c = rw c.into.ensures (why_unfit _ _ _ _ _ (so c.fits.ensures c.if-not-fits.true))
 
 pub returns-then-not-passes : goal.returns-then-not-passes
 returns-then-not-passes c =
-    why_bad _ _ _ _ _ (so c.fits.ensures c.if-not-fits.false) (so c.passes.ensures c.if-not-passes.true)
+    rw c.into-then-not-passes.ensures (why_bad _ _ _ _ _ (so c.fits.ensures c.if-not-fits.false) (so c.passes.ensures c.if-not-passes.true))
 
 pub is_block-requires : goal.is_block-requires
 is_block-requires c =
@@ -21,9 +21,10 @@ is_block-requires c =
 
 pub returns-then-not-is_block : goal.returns-then-not-is_block
 returns-then-not-is_block c =
-    why_nowhere _ _ _ _ _ (so c.fits.ensures c.if-not-fits.false)
+    rw c.into-then-not-is_block.ensures
+    (why_nowhere _ _ _ _ _ (so c.fits.ensures c.if-not-fits.false)
     (so c.passes.ensures c.if-not-passes.false)
-    (so c.is_block.ensures c.if-not-is_block.true)
+    (so c.is_block.ensures c.if-not-is_block.true))
 
 pub long_enough-requires : goal.long_enough-requires
 long_enough-requires c =
@@ -32,10 +33,11 @@ long_enough-requires c =
 
 pub returns-then-not-long_enough : goal.returns-then-not-long_enough
 returns-then-not-long_enough c =
-    why_short _ _ _ _ _ (so c.fits.ensures c.if-not-fits.false)
+    rw c.into-then-not-long_enough.ensures
+    (why_short _ _ _ _ _ (so c.fits.ensures c.if-not-fits.false)
     (so c.passes.ensures c.if-not-passes.false)
     (so c.is_block.ensures c.if-not-is_block.false)
-    (so c.long_enough.ensures c.if-not-long_enough.true)
+    (so c.long_enough.ensures c.if-not-long_enough.true))
 
 pub reason-reason-requires : goal.reason-reason-requires
 reason-reason-requires c =
