@@ -7,7 +7,7 @@ ghost use Rattle.machine.specs.Heap.{heap};
 ghost use Rattle.machine.specs.Answers.{given};
 ghost use Rattle.machine.specs.Format.{free_list, format};
 
-use machine::{Outcome, Regs};
+use machine::{Outcome, Refusal, Regs};
 
 // The words of m free blocks, linked in rising order; the last one's link is 0.
 fn link_all(words: &mut [u32], m: u32)
@@ -58,5 +58,5 @@ pub fn format(
         part_cells::fresh(bytes);
         return part_checks::done(fresh_regs(r, m, u), 0);
     }
-    part_checks::refused(r, machine::UNFIT)
+    part_checks::refused(r, Refusal::Unfit.into())
 }

@@ -13,4 +13,6 @@ returns-then-fits c =
     c.done.ensures _ _ _ ∙ format_done _ _ _ _ _ _ _ (so c.fits.ensures c.if-fits.true) c.fresh_regs.ensures c.link_all.ensures c.fresh.ensures c.fresh-then-fits.ensures
 
 pub returns : goal.returns
-returns c = c.refused.ensures _ _ _ ∙ format_not _ _ _ (so c.fits.ensures c.if-fits.false)
+returns c =
+    rw c.into.ensures at (c.refused.ensures c.args.words.now c.args.colours.now c.args.bytes.now)
+    ∙ format_not _ _ _ (so c.fits.ensures c.if-fits.false)
