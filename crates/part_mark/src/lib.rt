@@ -88,21 +88,26 @@ pub fn marks(r: Regs, words: &[u32], colours: &mut [u32], bytes: &[u8], n: u32) 
     ensures { Went n (heap r words.now colours.old bytes.now) result words.now colours.new bytes.now }
 {
     let mut s = r;
-    let mut left = n;
-    while left != 0 && s.grey != machine::NO_GREY {
+    for done in 0..n {
+        if s.grey == machine::NO_GREY {
+            return Ran {
+                regs: s,
+                units: done,
+                end: Ok(()),
+            };
+        }
         let Ok(next) = mark_unit(s, words, colours, bytes) else {
             return Ran {
                 regs: s,
-                units: n - left,
+                units: done,
                 end: Err(Damaged),
             };
         };
         s = next;
-        left -= 1;
     }
     Ran {
         regs: s,
-        units: n - left,
+        units: n,
         end: Ok(()),
     }
 }

@@ -5,6 +5,7 @@
 --     done_marking                 a unit that marks leaves the phase
 --     left_on, left_off            what is left after a stretch, and where damage ended it
 --     run_first, run_at, run_out   a run before its first unit, with j units left, and with none
+--     run_as                       a run by equal numbers
 -- Assumes nothing.
 use Prim.Native.Nat.{ℕ, suc, ◌+◌, ◌-◌, ◌≤◌}
 use mathlib.Core.Path.{◌≡◌, refl, sym, ◌∙◌, ap}
@@ -108,3 +109,6 @@ run_first n i h e = ap (λ (x : ℕ). run n x h) e
 pub run_out : (n : ℕ) (h : Heap) {x : ℕ} → x ≡ 0 → run x (n - x) h ≡ stopped 0 n h
 unfolding run
 run_out n h z = rw z (ap (λ (x : ℕ). stopped 0 x h) (omega arith))
+
+pub run_as : (h : Heap) {x y u v : ℕ} → x ≡ u → y ≡ v → run x y h ≡ run u v h
+run_as h a b = rw (a, b) refl
