@@ -26,12 +26,10 @@ pub fn serve_chain(
     ensures { heap result words.new colours.new bytes.new ≡ serve chain b w (first_frees n (heap r words.old colours.old bytes.old)) n 0 (heap r words.old colours.old bytes.old) }
 {
     let mut s = part_take::hold(r, words, bytes, b, w, r.free);
-    let mut left = n - 1;
-    while left != 0 {
+    for _ in 1..n {
         let x = s.free;
         s = part_take::take(s, words, colours);
         part_put::put_reference(words, bytes, x, machine::LINK, s.free);
-        left -= 1;
     }
     let last = s.free;
     s = part_take::take(s, words, colours);

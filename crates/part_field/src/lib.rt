@@ -78,16 +78,14 @@ pub fn walk(r: Regs, words: &[u32], colours: &[u32], bytes: &[u8], b: u32, links
     ensures { Walks (heap r words.now colours.now bytes.now) links b result }
 {
     let mut at = b;
-    let mut left = links;
-    while left > 0 {
+    for followed in 0..links {
         let Ok(()) = follow_refusal(r, words, colours, bytes, at) else {
             return Walked {
                 block: at,
-                left: left,
+                left: links - followed,
             };
         };
         at = words[8 * (at as usize - 2) + machine::LINK as usize];
-        left -= 1;
     }
     Walked { block: at, left: 0 }
 }

@@ -27,21 +27,19 @@ pub fn fits_at(m: u32, words: &[u32], colours: &[u32], a: u32) -> bool
 }
 
 // The last of n blocks that can be taken, from a on by their links; 0 where one of them can't.
+// Kept: 0, which is no block, for none: the definition `walked_to` gives it, from which `several_refusal` is proved.
 pub fn walked_to(m: u32, words: &[u32], colours: &[u32], head: u32, n: u32) -> u32
     requires { (m ≤ 16384) × (length words.now ≡ 8 * m) × CellsFit m colours.now × (head ≢ 0 → Block m head) }
     ensures { (g : ℕ) → result ≡ walked_to (coloured m g colours.now) words.now n head 0 }
 {
     let mut a = head;
     let mut last = 0;
-    let mut left = n;
-    while left != 0 {
-        if fits_at(m, words, colours, a) {
-            last = a;
-            a = words[8 * (a as usize - 2)];
-            left -= 1;
-        } else {
+    for _ in 0..n {
+        if !fits_at(m, words, colours, a) {
             return 0;
         }
+        last = a;
+        a = words[8 * (a as usize - 2)];
     }
     last
 }
@@ -52,13 +50,11 @@ pub fn met(words: &[u32], head: u32, n: u32, x: u32) -> bool
     ensures { (r : Regs) (cs bs : List ℕ) → result ≡ amongst x (frees n head (heap r words.now cs bs)) }
 {
     let mut a = head;
-    let mut left = n;
-    while left != 0 {
+    for _ in 0..n {
         if a == x {
             return true;
         }
         a = words[8 * (a as usize - 2)];
-        left -= 1;
     }
     false
 }

@@ -11,37 +11,38 @@ pub hold-s-requires : goal.hold-s-requires
 hold-s-requires c =
     (rw c.requires.0.bytes c.requires.0.words, λ z. (block_as c.requires.0.bytes (c.requires.1 z).0, (c.requires.1 z).1))
 
-pub loop-left-init : goal.loop-left-init
-loop-left-init c =
-    (laid_start _ _ _ _ _ c.requires.0 c.requires.1 c.requires.3 (omega arith) (c.hold-s.ensures _), refl, refl, refl, refl)
+pub loop-init : goal.loop-init
+loop-init c =
+    (omega arith, laid_start _ _ _ _ _ c.requires.0 c.requires.1 c.requires.3 (omega arith) (c.hold-s.ensures _), refl, refl, refl, refl)
 
 pub take-s-requires : goal.take-s-requires
-take-s-requires c = laid_take c.loop-left.invariant.0
+take-s-requires c = laid_take c.loop.invariant.1
 
 pub put_reference-requires : goal.put_reference-requires
 put_reference-requires c =
-    let t = laid_put c.loop-left.invariant.0 in
+    let t = laid_put c.loop.invariant.1 in
     (c.take-s.auto.words ∙ t.0, t.1, t.2)
 
-pub loop-left-preserved : goal.loop-left-preserved
-loop-left-preserved c =
-    let l : c.loop-left.left ≡ c.loop-left.left - 1 + 1 = (let z = c.loop-left-test.true in omega arith) in (
-      laid_on c.loop-left.invariant.0 _ l (c.take-s.ensures _) (c.put_reference.ensures _ _),
-      c.loop-left.invariant.1 ∙ lay_on _ _ (c.take-s.ensures _) _ l (c.put_reference.ensures _ _),
+pub loop-preserved : goal.loop-preserved
+loop-preserved c =
+    let l : c.args.n - c.loop.counter ≡ c.args.n - (c.loop.counter + 1) + 1 = (let z = c.loop-test.true in omega arith) in (
+      omega arith,
+      laid_on c.loop.invariant.1 _ l (c.take-s.ensures _) (c.put_reference.ensures _ _),
+      c.loop.invariant.2 ∙ lay_on _ _ (c.take-s.ensures _) _ l (c.put_reference.ensures _ _),
       search rules,
       search rules,
       search rules,
     )
 
 pub take-s-requires-2 : goal.take-s-requires-2
-take-s-requires-2 c = laid_take c.loop-left.invariant.0
+take-s-requires-2 c = laid_take c.loop.invariant.1
 
 pub put_reference-requires-2 : goal.put_reference-requires-2
 put_reference-requires-2 c =
-    let t = laid_put c.loop-left.invariant.0 in
+    let t = laid_put c.loop.invariant.1 in
     (c.take-s-2.auto.words ∙ t.0, t.1, t.2)
 
 pub returns : goal.returns
 returns c =
-    (lay_end _ _ (c.take-s-2.ensures _) c.loop-left-test.false (c.put_reference-2.ensures _ _) ∙ sym c.loop-left.invariant.1
+    (lay_end _ _ (c.take-s-2.ensures _) (omega arith) (c.put_reference-2.ensures _ _) ∙ sym c.loop.invariant.2
     ∙ laid _ _ _ _ _ c.requires.0 c.requires.1 c.requires.3 (omega arith) (c.hold-s.ensures _))
