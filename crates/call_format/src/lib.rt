@@ -14,6 +14,7 @@ fn link_all(words: &mut [u32], m: u32)
     requires { (1 ≤ m) × (m ≤ 16384) × (length words.old ≡ 8 * m) }
     ensures { words.new ≡ free_list m 2 }
 {
+    // Kept: a range. With chunks_exact_mut the proof did not close: of a buffer lent out by chunks it knows the length alone.
     let last = m + 1;
     for b in machine::FIRST..last {
         let at = 8 * (b as usize - 2);

@@ -10,7 +10,7 @@ ghost use Rattle.machine.specs.Heap.{Heap, heap};
 ghost use Rattle.machine.specs.State.{state_of, is_live};
 ghost use Rattle.machine.specs.Frame.{Sized};
 ghost use Rattle.machine.specs.Search.{path_numbers};
-ghost use Rattle.machine.specs.Why.{path_of, live_reason, reason_from, reason_of, padded, why, told, kept_number, reason_numbers, why_numbers};
+ghost use Rattle.machine.specs.Why.{path_of, live_reason, reason_from, reason_of, padded, why};
 ghost use Rattle.call_why.specs.Numbers.{why_in_numbers};
 
 use machine::{Colour, Reason, Refusal, Regs, State, Why, WhyNumbers};
@@ -150,58 +150,6 @@ pub fn why(
     Ok(Why { reason })
 }
 
-// The number of a kept block's colour, as State tells it.
-fn kept_number(c: Colour) -> u32
-    ensures { result ≡ kept_number c }
-{
-    match c {
-        Colour::White => machine::TOLD_LIVE_WHITE,
-        Colour::Grey => machine::TOLD_GREY,
-        Colour::Black => machine::TOLD_BLACK,
-        Colour::Free => machine::TOLD_FREE,
-        Colour::Outside => machine::TOLD_OUTSIDE,
-    }
-}
-
-// What was told, in these numbers.
-fn told(reason: u32, pairs: u32, state: u32) -> WhyNumbers
-    ensures { result ≡ told reason pairs state }
-{
-    WhyNumbers {
-        refusal: 0,
-        reason,
-        pairs,
-        state,
-    }
-}
-
-// A reason in numbers.
-fn reason_numbers(x: Reason) -> WhyNumbers
-    ensures { result ≡ reason_numbers x }
-{
-    match x {
-        Reason::Free => told(machine::WHY_FREE, 0, 0),
-        Reason::Doomed => told(machine::WHY_DOOMED, 0, 0),
-        Reason::Reachable(pairs) => told(machine::WHY_REACHABLE, pairs, 0),
-        Reason::Kept(c) => told(machine::WHY_KEPT, 0, kept_number(c)),
-    }
-}
-
-// An answer in numbers.
-fn numbers_of(a: Result<Why, u32>) -> WhyNumbers
-    ensures { result ≡ why_numbers a }
-{
-    match a {
-        Ok(w) => reason_numbers(w.reason),
-        Err(n) => WhyNumbers {
-            refusal: n,
-            reason: 0,
-            pairs: 0,
-            state: 0,
-        },
-    }
-}
-
 // The same call, with its answer in numbers.
 pub fn why_numbers(
     r: Regs,
@@ -216,5 +164,5 @@ pub fn why_numbers(
     ensures { (record { answer = result; path = path.new; queue = queue.new; came = came.new })
         ≡ why_in_numbers path.old queue.old came.old b (heap r words.now colours.now bytes.now) }
 {
-    numbers_of(why(r, words, colours, bytes, path, queue, came, b))
+    WhyNumbers::from(why(r, words, colours, bytes, path, queue, came, b))
 }

@@ -2,6 +2,8 @@
 // The machine itself, document 01 as definitions, is in specs/.
 #![tactic(auto)]
 
+pub mod numbers; // numbers.rt: what Why answers, in numbers
+
 ghost use Rattle.std.specs.Prelude.{◌≡◌};
 ghost use Rattle.machine.specs.Registers.{with_grey};
 ghost use Rattle.machine.specs.Refusal.{number};

@@ -38,6 +38,7 @@ fn write(came: &[u32], x: u32, n: usize, path: &mut [u32])
     ensures { path.new ≡ path_numbers (path_to (length came.now) came.now x) ++ drop (2 * n) path.old }
 {
     let mut at = x;
+    // Kept: written by index. With rchunks_exact_mut the proof does not close: of a buffer lent out by chunks it knows the length alone.
     for pair in (0..n).rev() {
         let way = way_to(came, at);
         path[2 * pair] = way / 8;

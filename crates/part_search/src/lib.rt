@@ -7,6 +7,9 @@ ghost use Rattle.machine.specs.WellFormed.{Block};
 ghost use Rattle.machine.specs.Search.{named_in, meet, visit, begun, search};
 ghost use Rattle.part_search.specs.Lying.{so_far, Lies, Gives, named_by};
 
+// Kept: two buffers and a number, passed one by one. With a struct that holds the two, the proof of `search` didn't close: where such a
+// struct ends, a lent slice is known by its length alone. Tried: its fields' names kept, an end by value, a lifetime for each buffer.
+
 // Word w of the block b names x, which is any number: a block that wasn't found yet is found. Answers the number found afterwards.
 fn meet(m: u32, b: u32, w: u32, x: u32, queue: &mut [u32], came: &mut [u32], n: usize) -> usize
     requires { (m ≤ 16384) × Block m b × (w < 8) × Lies m n queue.old came.old }
@@ -39,7 +42,7 @@ pub fn visit(
     let mut k = n;
     let mut rest = byte as u32;
     while rest != 0 {
-        let t = u32::trailing_zeros(rest);
+        let t = rest.trailing_zeros();
         k = meet(m, b, t, part[t as usize], queue, came, k);
         rest -= 1u32 << t;
     }
@@ -74,6 +77,7 @@ pub fn search(
 {
     let mut k = begin(m, root, queue, came);
     let mut i: usize = 0;
+    // Kept: the queue grows meanwhile, so that no range or slice is gone through.
     while i < k {
         let b = queue[i];
         let at = b as usize - 2;

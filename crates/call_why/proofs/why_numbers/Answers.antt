@@ -3,4 +3,4 @@ use Rattle.call_why.proofs.Ways.{numbers_as}
 use Rattle.call_why.proofs.why_numbers.Goals as goal
 
 pub returns : goal.returns
-returns c = numbers_as c.why.ensures c.numbers_of.ensures
+returns c = numbers_as c.why.ensures c.from.ensures
