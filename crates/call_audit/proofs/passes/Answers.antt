@@ -5,9 +5,6 @@ use Rattle.machine.proofs.Passing.{entry_no}
 use mathlib.Core.Path.{◌∙◌}
 use Rattle.call_audit.proofs.passes.Goals as goal
 
-pub returns-then-entry-eq0 : goal.returns-then-entry-eq0
-returns-then-entry-eq0 c = c.passes.ensures (so c.entry.ensures c.if-entry-eq0.true)
-
 pub returns : goal.returns
 returns c = entry_no _ (λ z. c.if-entry-eq0.false (c.entry.ensures ∙ z))
 
