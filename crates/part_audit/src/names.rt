@@ -14,6 +14,7 @@ pub fn may_name<B: Blocks>(blocks: &B, strict: bool, x: u32) -> bool
 }
 
 // Whether every reference among the words of the block b may hold what it holds, from set bit to set bit of its byte.
+// Kept: the rest of the byte is what such a loop keeps, by its trailing zeros (docs/DECISIONS.md); it counts no index.
 pub fn may_name_all<B: Blocks>(blocks: &B, strict: bool, b: u32) -> bool
     requires { Block (B.held blocks.now).regs.blocks b }
     ensures { result ≡ may_name_all (B.held blocks.now).regs (colouring (B.held blocks.now)) strict (references_of (B.held blocks.now) b) }

@@ -61,6 +61,7 @@ pub fn may_be_named(strict: bool, s: State) -> bool
 }
 
 // Whether the words 1 to 7 of the block b are 0.
+// Kept: word by word. A loop over them costs the audit of a free block 41 instructions where it stops at the first, 38 where it ors all, not 34.
 fn zeroes<B: Blocks>(blocks: &B, b: u32) -> bool
     requires { Block (B.held blocks.now).regs.blocks b }
     ensures { result ≡ zero_from 7 1 (eight_words (B.held blocks.now).words b) }

@@ -5,11 +5,6 @@ use Rattle.machine.proofs.Tests.{so}
 use Rattle.machine.proofs.Audits.{all_on, all_off, all_end}
 use Rattle.part_audit.proofs.blocks_pass.Goals as goal
 
-pub block_passes-requires : goal.block_passes-requires
-block_passes-requires g c =
-    let e = c.loop-b.invariant.0 in
-    record { low = omega arith; high = omega arith }
-
 pub loop-b-preserved : goal.loop-b-preserved
 loop-b-preserved g c =
     (c.loop-b.invariant.0, all_on _ _ _ _ c.loop-b.invariant.1 _ (omega arith) (so c.block_passes.ensures c.if-not-block_passes.false))

@@ -5,9 +5,6 @@ use Rattle.machine.proofs.Tests.{so}
 use Rattle.machine.proofs.Frames.{framed_image, unframed_image}
 use Rattle.part_image_audit.proofs.is_image.Goals as goal
 
-pub passes-requires : goal.passes-requires
-passes-requires c = so c.framed.ensures c.if-framed.true
-
 pub returns-then-framed : goal.returns-then-framed
 returns-then-framed c =
     let i = c.args.image.now in

@@ -14,18 +14,8 @@ word-requires g c =
     let l = lowest_within _ _ c.loop-rest.invariant.0 c.loop-rest-test.true refl in
     (omega arith, c.requires)
 
-pub overflow_shl-rest : goal.overflow_shl-rest
-overflow_shl-rest g c =
-    let l = lowest_within _ _ c.loop-rest.invariant.0 c.loop-rest-test.true refl in omega arith
-
 pub overflow_sub-rest : goal.overflow_sub-rest
 overflow_sub-rest g c = lowest_sub _ _ c.loop-rest.invariant.0 c.loop-rest-test.true refl
-
-pub loop-rest-smaller : goal.loop-rest-smaller
-loop-rest-smaller g c = lowest_less _ _ c.loop-rest.invariant.0 c.loop-rest-test.true refl
-
-pub loop-rest-init : goal.loop-rest-init
-loop-rest-init g c = (c.reference_byte-byte.type_inv, rw c.reference_byte-byte.ensures refl)
 
 pub loop-rest-preserved : goal.loop-rest-preserved
 loop-rest-preserved g c =
