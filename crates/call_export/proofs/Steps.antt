@@ -1,5 +1,5 @@
 -- Laws of the definition: one for each way out of `follow`, and what its rows are.
---     follow_refused, follow_on, follow_number     the three ways of follow
+--     follow_refused, follow_read     the two ways of follow.     follow_on, follow_number     those of the second
 --     follow_zero, follow_leads     a link that leads on is one that Read gives
 --     read_zero            a Read that answers 0 is refused nothing
 --     row_eight            a row has eight words
@@ -30,6 +30,10 @@ module _ (h : Heap) (b w : ℕ) where
   pub follow_refused : (n : ℕ) → n ≡ read_refusal b w h → n ≢ 0 → Err (Refused n) ≡ follow b w h
   unfolding followed read
   follow_refused n e z = let k = ne_eqb (read_refusal b w h) 0 (λ y. z (e ∙ y)) in simp (k, e)
+
+  pub follow_read : read_refusal b w h ≡ 0 → followed (read_answer b w h) ≡ follow b w h
+  unfolding read
+  follow_read z = simp (eq-eqb (read_refusal b w h) 0 z)
 
   pub follow_on : read_refusal b w h ≡ 0 → bit (byte_of h.bytes b) w ≡ true → Ok (word_of h.words b w) ≡ follow b w h
   unfolding followed read read_answer

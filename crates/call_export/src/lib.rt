@@ -46,12 +46,7 @@ impl<'a> Rows for Blocks<'a> {
         if n != 0 {
             return Err(Reason::Refused(n));
         }
-        let at = b as usize - 2;
-        let w = self.link as usize;
-        if part_cells::bit(self.bytes[at], w) {
-            return Ok(self.words[8 * at + w]);
-        }
-        Err(Reason::NoReference)
+        part_rows::followed(part_cells::read_word(self.words, self.bytes, b, self.link))
     }
 
     // The eight words of the block b.

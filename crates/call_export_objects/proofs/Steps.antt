@@ -1,9 +1,8 @@
 -- Laws of the definition: what numbers in range are, and one law for each way of a row's link.
---     InRange, fits_range  what numbers in range are.     range_low, range_high     the two ways of the test that they aren't
---     not_true, not_false  a test that came out the other way
+--     InRange, fits_range  what numbers in range are.
 --     find_entry, find_place, find_off, find_ends     the ways in which a row is refused, or not
 --     link_refused, link_passed     the two ways of link_of
---     follow_refused, follow_on, follow_number     the three ways of a row's link
+--     follow_refused, follow_read     the two ways of a row's link
 --     follow_zero          a row that leads on is refused nothing
 --     object_rows_lem          the rows are Sound
 --     objects_fit, objects_off     the two ways of export_objects
@@ -11,27 +10,25 @@
 use Prim.Native.Nat.{ℕ, zero, suc, ◌+◌, ◌-◌, ◌/◌, ◌%◌, ◌≤◌, ◌<◌}
 use mathlib.Core.Path.{◌≡◌, refl, sym, ◌∙◌, ap}
 use mathlib.Core.Logic.{◌≢◌}
-use mathlib.Core.Bool.{Bool, true, false, ◌&&◌, not}
+use mathlib.Core.Bool.{true, false, ◌&&◌}
 use mathlib.Core.List.{List}
 use native.Mathlib.Omega.{arith}
 use lib.Dec.{leb, ltb}
 use lib.ListN.{length}
-use borrow.Author.Tests.{eq-eqb, ne_eqb, leb-true, leb-false, ltb-true, le-leb, lt-leb, lt-ltb, le-ltb}
-use Rattle.std.specs.Prelude.{Ok, Err, IsOk, is_ok}
+use borrow.Author.Tests.{eq-eqb, ne_eqb, leb-true, ltb-true}
+use Rattle.std.specs.Prelude.{Err, IsOk, is_ok}
 use Rattle.machine.specs.Tests.{◌▷◌}
-use Rattle.machine.specs.Block.{word_of, byte_of, bit}
 use Rattle.machine.specs.Heap.{Heap}
 use Rattle.machine.specs.Entry.{entry}
 use Rattle.machine.specs.Read.{read_answer, read_refused}
 use Rattle.machine.specs.Field.{field_place, field_block, walk_refusal, field_refusal, read_field}
 use Rattle.machine.specs.WellFormed.{Block}
-use Rattle.machine.proofs.Tests.{both_true, by_eq, by_test, clash}
+use Rattle.machine.proofs.Tests.{both_true, by_eq}
 use Rattle.machine.proofs.Steps.{never}
 use Rattle.machine.proofs.Entering.{first_zero}
 use Rattle.machine.proofs.Refusals.{Readable, stops, passes}
-use Rattle.machine.proofs.Reading.{word_reference, word_number}
 use Rattle.machine.proofs.Fields.{field_readable, field_zero}
-use Rattle.part_rows.specs.declared.Reason.TheVariants.{Refused, NoReference}
+use Rattle.part_rows.specs.declared.Reason.TheVariants.{Refused}
 use Rattle.part_rows.specs.Shape.{Sound}
 use Rattle.part_rows.specs.Rows.{followed, lead, stopped, export_rows}
 use Rattle.part_rows.proofs.Steps.{followed_refused}
@@ -50,25 +47,6 @@ module _ (n link : ℕ) where
       let a = both_true (leb 1 n) (leb n 1792 && ltb link n) e in
       let p = both_true (leb n 1792) (ltb link n) a.1 in
       record { some = leb-true 1 n a.0; most = leb-true n 1792 p.0; among = ltb-true link n p.1 }
-
-  pub range_high : 1792 < n → true ≡ not (row_fits n link)
-  unfolding row_fits
-  range_high l = simp (le-leb 1 n (omega arith), lt-leb n 1792 l)
-
-  pub range_low : n ≤ 1792 → leb n link ≡ not (row_fits n link)
-  unfolding row_fits
-  range_low m =
-      by_test (leb n link)
-      (λ t. let l = leb-true n link t in by_eq n 0 (λ z. simp (t, lt-leb 1 n (omega arith))) (λ z. simp (t, le-leb 1 n (omega arith), le-leb n 1792 m, le-ltb link n l)))
-      (λ t. let l = leb-false n link t in simp (t, le-leb 1 n (omega arith), le-leb n 1792 m, lt-ltb link n l))
-
-pub not_true : (t : Bool) → not t ≡ true → t ≡ false
-not_true true e = clash e refl
-not_true false e = refl
-
-pub not_false : (t : Bool) → not t ≡ false → t ≡ true
-not_false true e = refl
-not_false false e = clash refl e
 
 -- the ways in which a row of n fields is refused, as its tests come
 module _ (h : Heap) (b n : ℕ) where
@@ -117,13 +95,8 @@ module _ (h : Heap) (b n link : ℕ) (d : row_fits n link ≡ true) where
     pub link_readable : Readable h at (link % 7)
     link_readable = let r = fits_range n link d in field_readable h b link at f (row_field h b n link r.among r.most z)
 
-    pub follow_on : bit (byte_of h.bytes at) (link % 7) ≡ true → Ok (word_of h.words at (link % 7)) ≡ lead (object_rows n link h) b
-    unfolding followed
-    follow_on t = rw (link_passed z, ← f, ← word_reference h at (link % 7) t) refl
-
-    pub follow_number : bit (byte_of h.bytes at) (link % 7) ≡ false → Err NoReference ≡ lead (object_rows n link h) b
-    unfolding followed
-    follow_number t = rw (link_passed z, ← f, ← word_number h at (link % 7) t) refl
+    pub follow_read : followed (read_answer at (link % 7) h) ≡ lead (object_rows n link h) b
+    follow_read = rw (link_passed z, ← f) refl
 
   pub link_zero : (link_of n link b h).refusal ≡ 0 → field_refusal b (n - 1) h ≡ 0
   link_zero e = by_eq (field_refusal b (n - 1) h) 0 (λ z. z) (λ z. rw (link_refused z) at e)

@@ -2,7 +2,7 @@
 // A row is an object's first fields; the list goes on by the reference in one of them, and 0 ends it.
 #![tactic(auto)]
 
-ghost use Rattle.std.specs.Prelude.{◌≡◌, ◌≢◌, true, not, ◌-◌, ◌/◌, MatchResult};
+ghost use Rattle.std.specs.Prelude.{◌≡◌, ◌≢◌, true, ◌-◌, ◌/◌, MatchResult};
 ghost use Rattle.machine.specs.WellFormed.{Block};
 ghost use Rattle.machine.specs.Heap.{heap};
 ghost use Rattle.machine.specs.Ready.{Ready};
@@ -18,14 +18,12 @@ use part_rows::{ExportAnswer, Reason, Rows, Stopped};
 // The most fields that an object has.
 pub const MOST_FIELDS: u32 = 1_792;
 
-// Whether the numbers are out of range: a row has 1 to 1,792 fields, and its link is one of them.
-fn out_of_range(fields: u32, link: u32) -> bool
-    ensures { result ≡ not (row_fits fields link) }
+// Whether the numbers are in range: a row has 1 to 1,792 fields, and its link is one of them.
+#[tactic(auto, unfolding(crate::specs::Objects::row_fits))]
+fn in_range(fields: u32, link: u32) -> bool
+    ensures { result ≡ row_fits fields link }
 {
-    if fields <= MOST_FIELDS {
-        return fields <= link;
-    }
-    true
+    1 <= fields && (fields <= MOST_FIELDS && link < fields)
 }
 
 // Goes on where the refusal number n is 0.
@@ -95,13 +93,9 @@ impl<'a> Rows for Objects<'a> {
     }
 
     fn follow(&self, b: u32) -> Result<u32, Reason> {
-        let block = self.find(b)?;
-        let at = block as usize - 2;
-        let w = (self.link % machine::FIELDS) as usize;
-        if part_cells::bit(self.bytes[at], w) {
-            return Ok(self.words[8 * at + w]);
-        }
-        Err(Reason::NoReference)
+        let at = self.find(b)?;
+        let w = self.link % machine::FIELDS;
+        part_rows::followed(part_cells::read_word(self.words, self.bytes, at, w))
     }
 
     fn write(&self, b: u32, row: &mut [u32]) {
@@ -124,7 +118,7 @@ pub fn export_objects(
     ensures { (record { answer = result; out = out.new })
         ≡ export_objects start fields link (heap r words.now colours.now bytes.now) out.old }
 {
-    if out_of_range(fields, link) {
+    if !in_range(fields, link) {
         return Err(Reason::Refused(machine::NO_PLACE).after(0));
     }
     let rows = Objects {

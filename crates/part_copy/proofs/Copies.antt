@@ -1,21 +1,31 @@
--- Laws of the copying, block by block.
+-- Laws of the copying: words one by one, and block by block.
+--     copy_on, copy_ends       a turn of the loop that copies word by word, and its end
 --     block_back               the row when the lent part is back, with a block's first words in it
 --     chained_first, chained_rest, chained_next     the first block of a chain, and the rest
 --     fields_start, fields_on, fields_end     the loop that copies block by block: its start, a turn of it, and its end
 -- Assumes nothing.
-use Prim.Native.Nat.{ℕ, suc, ◌+◌, ◌-◌, ◌≤◌}
-use mathlib.Core.Path.{◌≡◌, refl, sym, ◌∙◌}
-use mathlib.Core.List.{List, [], ◌++◌, append_assoc, append-nil}
+use Prim.Native.Nat.{ℕ, suc, ◌+◌, ◌-◌, ◌≤◌, ◌<◌}
+use mathlib.Core.Path.{◌≡◌, refl, sym, ◌∙◌, ap}
+use mathlib.Core.List.{List, [], ◌∷◌, ◌++◌, append_assoc, append-nil}
 use native.Mathlib.Omega.{arith}
 use native.Mathlib.Numerals.{add-one}
-use lib.ListN.{length, take, drop, length-append, length-take, length-drop, drop_of_length-le}
-use lib.Seq.{take_at}
+use lib.ListN.{length, set, get_or, take, drop, length-append, length-take, length-drop, drop_of_length-le}
+use lib.Seq.{take_all, take-suc, take-suc-set, take_at}
 use Rattle.machine.specs.Block.{base, word_of}
 use Rattle.machine.specs.Chain.{link}
 use Rattle.part_rows.specs.Rows.{with_row}
 use Rattle.part_rows.proofs.Copying.{row_back}
 use Rattle.part_copy.specs.Chains.{Within, Chained, last, more, chain_words}
 
+-- ---- word by word
+pub copy_on : (to from : List ℕ) (i : ℕ) → i < length to → i < length from → take i to ≡ take i from → take (i + 1) (set to i (get_or from i 0)) ≡ take (i + 1) from
+copy_on to from i l m e =
+    rw (add-one i) (take-suc-set to i (get_or from i 0) l ∙ ap (λ (r : List ℕ). r ++ (get_or from i 0 ∷ [])) e ∙ sym (take-suc from i 0 m))
+
+pub copy_ends : (to from : List ℕ) (i : ℕ) → length to ≤ i → length to ≡ length from → take i to ≡ take i from → to ≡ from
+copy_ends to from i l m e = sym (take_all i to l) ∙ e ∙ take_all i from (omega arith)
+
+-- ---- block by block
 module _ (ws row : List ℕ) (b i n : ℕ) (d : Within b ws) (l : n ≤ 7) where
   part_length : length (take n (drop (base b) ws)) ≡ n
   part_length = let h = d.high in simp (length-take, length-drop) (omega arith)

@@ -3,3 +3,4 @@ pub mod Steps
 pub mod Walks
 pub mod Meaning
 pub mod Copying
+pub mod Going

@@ -2,7 +2,6 @@
 --     followed_to, followed_refused, followed_number     the three ways of followed.     to_followed    what a link that leads on says
 --     export_whole         an export at its start
 --     export_end, export_circle, export_full, export_off, export_on     the ways of export_from, where n of m rows are written
---     Going                what an export's loop keeps
 --     numbers_as           an export with its answer in numbers
 --     same_given, same_numbers     no second outcome is what an export gives: two things equal to a third are equal
 -- Assumes nothing.
@@ -10,7 +9,7 @@ use Prim.Native.Nat.{ℕ, zero, suc, ◌+◌, ◌-◌, ◌*◌, ◌≤◌, ◌<�
 use mathlib.Core.Path.{◌≡◌, refl, sym, ◌∙◌, ap}
 use mathlib.Core.Logic.{◌≢◌}
 use mathlib.Core.List.{List}
-use Rattle.std.specs.Prelude.{Result, Ok, Err, MatchResult, IsErrAnd}
+use Rattle.std.specs.Prelude.{Result, Ok, Err}
 use native.Mathlib.Omega.{arith}
 use lib.ListN.{length}
 use borrow.Author.Tests.{eq-eqb, ne_eqb, lt-ltb, le-ltb}
@@ -78,33 +77,6 @@ module _ (s : Shape) where
             → export_from s (m - n) n b out ≡ export_from s (m - (n + 1)) (n + 1) next out'
         unfolding export_from onward
         export_on q o = rw fuel (simp (ne_eqb b 0 some, le-ltb (length out) (s.width * n + s.width) room, ← e, q, o))
-
--- the loop: n rows of the export from start are written, up to the word at, and b is the next
-pub record Going (s : Shape) (start : ℕ) (before : List ℕ) (n b at : ℕ) (out : List ℕ) : Type 0 where
-  pub place : at ≡ s.width * n
-  pub within : at ≤ length out
-  pub few : n ≤ s.most
-  pub whole : export_rows s start before ≡ export_from s (s.most - n) n b out
-
--- x is f, its error turned by g
-abbrev pub Turned : {T E D : Type 0} → (E → D) → Result T E → Result T D → Type 0
-Turned g f x = MatchResult f (λ y. x ≡ Ok y) (λ e. IsErrAnd x (λ d. d ≡ g e))
-
-pub record Turns {T E D : Type 0} (g : E → D) (f : Result T E) (d : D) : Type 0 where
-  pub error : E
-  pub was : f ≡ Err error
-  pub is : d ≡ g error
-
-module _ {T E D : Type 0} (g : E → D) where
-  pub turned_ok : (f : Result T E) (x : Result T D) → Turned g f x → {y : T} → x ≡ Ok y → f ≡ Ok y
-  turned_ok (Ok a) x t q = cc
-  turned_ok (Err a) (Ok b) t q = absurd t
-  turned_ok (Err a) (Err b) t q = cc
-
-  pub turned_err : (f : Result T E) (x : Result T D) → Turned g f x → {d : D} → x ≡ Err d → Turns g f d
-  turned_err (Ok a) x t q = cc
-  turned_err (Err a) (Ok b) t q = absurd t
-  turned_err (Err a) (Err b) t q = record { error = a; was = refl; is = cc }
 
 pub numbers_as : {g : ExportGiven} {a : ExportAnswer} {x : Result ℕ Stopped} {out : List ℕ}
     → (record { answer = x; out = out }) ≡ g → a ≡ numbers_of x → (record { answer = a; out = out }) ≡ in_numbers g

@@ -3,8 +3,10 @@
 
 ghost use Rattle.std.specs.Prelude.{◌≡◌, IsOk, length};
 ghost use Rattle.part_rows.specs.Shape.{Shape};
-ghost use Rattle.part_rows.specs.Rows.{after, lead, export_rows};
+ghost use Rattle.part_rows.specs.Rows.{after, followed, lead, export_rows};
 ghost use Rattle.part_rows.specs.Numbers.{reason_number, refusal_number, numbers_of};
+
+use machine::ReadAnswer;
 
 // Why an export stopped: it has M rows and there is one more, so that the list runs in a circle; the next row doesn't fit
 // the buffer; reading the row is refused, by this number; its link is no reference.
@@ -54,6 +56,20 @@ pub struct Stopped {
     pub reason: Reason,
 }
 
+// What the link of a row leads to, by what reading it answers: the next row or 0, or nothing, for this reason.
+#[tactic(auto, unfolding(crate::specs::Rows::followed))]
+pub fn followed(a: ReadAnswer) -> Result<u32, Reason>
+    ensures { result ≡ followed a }
+{
+    if a.refusal != 0 {
+        return Err(Reason::Refused(a.refusal));
+    }
+    if a.reference != 1 {
+        return Err(Reason::NoReference);
+    }
+    Ok(a.value)
+}
+
 // The rows of a list, as an export goes along them. A row has the number of its first block.
 pub trait Rows {
     ghost shape: { Self → Shape };
@@ -78,6 +94,7 @@ pub trait Rows {
 
 // Export: the rows of the list that starts at the row start, where 0 is the empty list. It is complete, with the number of rows, or
 // it is not. Each row passes the four tests, in the order of Reason, before it is written.
+// Kept: the row's place is counted, since of a buffer that is lent out by `chunks_exact_mut` a proof knows the length afterwards, and no word.
 pub fn export_rows<R: Rows>(rows: &R, start: u32, out: &mut [u32]) -> Result<u32, Stopped>
     ensures { (record { answer = result; out = out.new }) ≡ export_rows (R.shape rows.now) start out.old }
 {

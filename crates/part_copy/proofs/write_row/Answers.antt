@@ -22,7 +22,7 @@ pub returns : goal.returns
 returns c =
     let d = chained_first c.loop-i.invariant.0 in
     let links = (length c.args.row.now - 1) / 7 in
-    let w = block_back _ c.loop-i.row c.loop-i.at (7 * links) (length c.loop-i.row - 7 * links) d (omega arith) (length c.loop-i.row) (omega arith) c.copy_from_slice-2.ensures.after in
+    let w = block_back _ c.loop-i.row c.loop-i.at (7 * links) (length c.loop-i.row - 7 * links) d (omega arith) (length c.loop-i.row) (omega arith) c.copy.ensures in
     let e : c.loop-i.i ≡ links = omega arith in
     let z : links - links ≡ 0 = omega arith in
     fields_end _ _ _ _ (7 * links) c.loop-i.row _ _ z d c.loop-i.auto.row (omega arith) (omega arith) w (rw e at c.loop-i.invariant.1)

@@ -1,5 +1,5 @@
 use Prim.Native.Nat.{◌-◌}
-use Rattle.part_rows.proofs.Steps.{Going}
+use Rattle.part_rows.proofs.Going.{Going}
 use Rattle.part_rows.proofs.export_rows.Given as goal
 
 abbrev pub invariant-loop-b : goal.invariant-loop-b
