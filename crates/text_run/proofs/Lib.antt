@@ -1,2 +1,1 @@
 -- What is proved of a line's doing alone.
-pub mod Turns
