@@ -5,12 +5,13 @@
 ghost use Rattle.std.specs.Prelude.{◌≡◌};
 ghost use Rattle.machine.specs.Heap.{heap};
 ghost use Rattle.machine.specs.Entry.{entry};
+ghost use Rattle.machine.specs.Refusal.{refused_by};
 ghost use Rattle.call_export.specs.Export.{block_rows, export, export_numbers};
 
-use machine::Regs;
+use machine::{Refusal, Regs};
 use part_rows::{ExportAnswer, Reason, Rows, Stopped};
 
-// The rows of a list of blocks: the heap, the word of a row's link, and the heap's refusal 1, 2 or 0, the same for all rows.
+// The rows of a list of blocks: the heap, the word of a row's link, and whether the heap is refused by 1 or 2, the same for all rows.
 #[derive(Clone, Copy)]
 struct Blocks<'a> {
     regs: Regs,
@@ -18,8 +19,8 @@ struct Blocks<'a> {
     colours: &'a [u32],
     bytes: &'a [u8],
     link: u32,
-    refusal: u32,
-    ghost entered: { refusal ≡ entry (heap regs words.now colours.now bytes.now) },
+    checked: Result<(), Refusal>,
+    ghost entered: { refused_by checked ≡ entry (heap regs words.now colours.now bytes.now) },
 }
 
 impl<'a> Rows for Blocks<'a> {
@@ -34,8 +35,8 @@ impl<'a> Rows for Blocks<'a> {
     }
 
     fn follow(&self, b: u32) -> Result<u32, Reason> {
-        let n = part_checks::read_refusal_after(
-            self.refusal,
+        let readable = part_checks::read_refusal_after(
+            self.checked,
             self.regs,
             self.words,
             self.colours,
@@ -43,9 +44,7 @@ impl<'a> Rows for Blocks<'a> {
             b,
             self.link,
         );
-        if n != 0 {
-            return Err(Reason::Refused(n));
-        }
+        readable?;
         part_rows::followed(part_cells::read_word(self.words, self.bytes, b, self.link))
     }
 
@@ -76,7 +75,7 @@ pub fn export(
         colours,
         bytes,
         link,
-        refusal: part_checks::entry(r, words, colours, bytes),
+        checked: part_checks::entry(r, words, colours, bytes),
     };
     part_rows::export_rows(&rows, start, out)
 }

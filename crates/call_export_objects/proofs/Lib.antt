@@ -1,5 +1,4 @@
 -- What is proved of the export's definition, and the functions' proofs.
-pub mod Finding
 pub mod Walks
 pub mod Steps
 pub mod Rows

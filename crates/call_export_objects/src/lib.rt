@@ -2,17 +2,17 @@
 // A row is an object's first fields; the list goes on by the reference in one of them, and 0 ends it.
 #![tactic(auto)]
 
-ghost use Rattle.std.specs.Prelude.{◌≡◌, ◌≢◌, true, ◌-◌, ◌/◌, MatchResult};
+ghost use Rattle.std.specs.Prelude.{◌≡◌, true, ◌-◌, ◌/◌};
 ghost use Rattle.machine.specs.WellFormed.{Block};
 ghost use Rattle.machine.specs.Heap.{heap};
 ghost use Rattle.machine.specs.Ready.{Ready};
 ghost use Rattle.machine.specs.Entry.{entry};
+ghost use Rattle.machine.specs.Refusal.{refused_by};
 ghost use Rattle.machine.specs.Field.{field_block, walk_refusal, field_refusal};
-ghost use Rattle.part_rows.specs.declared.Reason.TheVariants.{Refused};
-ghost use Rattle.call_export_objects.specs.Finds.{found};
+ghost use Rattle.part_field.specs.Finds.{Finds};
 ghost use Rattle.call_export_objects.specs.Objects.{object_rows, row_fits, export_objects, export_objects_numbers};
 
-use machine::Regs;
+use machine::{Refusal, Regs};
 use part_rows::{ExportAnswer, Reason, Rows, Stopped};
 
 // The most fields that an object has.
@@ -26,19 +26,8 @@ fn in_range(fields: u32, link: u32) -> bool
     1 <= fields && (fields <= MOST_FIELDS && link < fields)
 }
 
-// Goes on where the refusal number n is 0.
-fn passed(n: u32) -> Result<(), Reason>
-    ensures { MatchResult result (λ _. n ≡ 0) (λ reason. (reason ≡ Refused n) × (n ≢ 0)) }
-{
-    if n == 0 {
-        Ok(())
-    } else {
-        Err(Reason::Refused(n))
-    }
-}
-
-// The rows of a list of objects: the heap, how many fields a row has and which is its link, and the heap's refusal 1, 2 or 0, the same
-// for all rows.
+// The rows of a list of objects: the heap, how many fields a row has and which is its link, and whether the heap is refused by 1 or 2,
+// the same for all rows.
 #[derive(Clone, Copy)]
 struct Objects<'a> {
     regs: Regs,
@@ -47,31 +36,29 @@ struct Objects<'a> {
     bytes: &'a [u8],
     fields: u32,
     link: u32,
-    refusal: u32,
+    checked: Result<(), Refusal>,
     ghost in_range: { row_fits fields link ≡ true },
-    ghost entered: { refusal ≡ entry (heap regs words.now colours.now bytes.now) },
+    ghost entered: { refused_by checked ≡ entry (heap regs words.now colours.now bytes.now) },
 }
 
 impl<'a> Objects<'a> {
     ghost use Rattle.call_export_objects.specs.Lent.{lent};
 
     // The block that so many links lead to from the block b on, or the first refusal on the way.
-    fn walk(&self, b: u32, links: u32) -> Result<u32, Reason>
+    fn walk(&self, b: u32, links: u32) -> Result<u32, Refusal>
         requires { Ready (lent self.now) × Block self.now.regs.blocks b }
-        ensures { result ≡ found (walk_refusal links b (lent self.now)) (field_block links b (lent self.now)) }
+        ensures { Finds result (walk_refusal links b (lent self.now)) (field_block links b (lent self.now)) }
     {
-        let x = part_field::walk(self.regs, self.words, self.colours, self.bytes, b, links);
-        passed(part_field::walk_refusal(self.regs, self.words, self.colours, self.bytes, x))?;
-        Ok(x.block)
+        part_field::find(self.regs, self.words, self.colours, self.bytes, b, links)
     }
 
     // The block of the link of the row that begins at the block b, or the first refusal of that row. The walk to the link's block goes
     // on from there to the last block.
-    fn find(&self, b: u32) -> Result<u32, Reason>
-        ensures { result ≡ found (field_refusal b (self.now.fields - 1) (lent self.now)) (field_block (self.now.link / 7) b (lent self.now)) }
+    fn find(&self, b: u32) -> Result<u32, Refusal>
+        ensures { Finds result (field_refusal b (self.now.fields - 1) (lent self.now)) (field_block (self.now.link / 7) b (lent self.now)) }
     {
-        passed(self.refusal)?;
-        passed(part_field::field_place(self.regs.blocks, b, self.fields - 1))?;
+        self.checked?;
+        part_field::field_place(self.regs.blocks, b, self.fields - 1)?;
         let at = self.walk(b, self.link / machine::FIELDS)?;
         let rest = (self.fields - 1) / machine::FIELDS - self.link / machine::FIELDS;
         self.walk(at, rest)?;
@@ -119,7 +106,7 @@ pub fn export_objects(
         ≡ export_objects start fields link (heap r words.now colours.now bytes.now) out.old }
 {
     if !in_range(fields, link) {
-        return Err(Reason::Refused(machine::NO_PLACE).after(0));
+        return Err(Reason::from(Refusal::NoPlace).after(0));
     }
     let rows = Objects {
         regs: r,
@@ -128,7 +115,7 @@ pub fn export_objects(
         bytes,
         fields,
         link,
-        refusal: part_checks::entry(r, words, colours, bytes),
+        checked: part_checks::entry(r, words, colours, bytes),
     };
     part_rows::export_rows(&rows, start, out)
 }

@@ -2,20 +2,32 @@
 #![tactic(auto)]
 
 ghost use Rattle.std.specs.Prelude.{◌≡◌, IsOk, length};
+ghost use Rattle.machine.specs.Refusal.{number};
+ghost use Rattle.part_rows.specs.declared.Reason.TheVariants.{Refused};
 ghost use Rattle.part_rows.specs.Shape.{Shape};
 ghost use Rattle.part_rows.specs.Rows.{after, followed, lead, export_rows};
 ghost use Rattle.part_rows.specs.Numbers.{reason_number, refusal_number, numbers_of};
 
-use machine::ReadAnswer;
+use machine::{ReadAnswer, Refusal};
 
 // Why an export stopped: it has M rows and there is one more, so that the list runs in a circle; the next row doesn't fit
 // the buffer; reading the row is refused, by this number; its link is no reference.
+// Kept: a refusal's number and not the refusal: the definitions of the rows (`block_rows`, `object_rows`) and the theorem `export_means`
+// tell it by what Read and Read field answer.
 #[derive(Clone, Copy, PartialEq, Eq, Debug)]
 pub enum Reason {
     Circle,
     NoRoom,
     Refused(u32),
     NoReference,
+}
+
+impl From<Refusal> for Reason {
+    ghost from_gives = { λ r reason. reason ≡ Refused (number r) };
+
+    fn from(r: Refusal) -> Reason {
+        Reason::Refused(r.into())
+    }
 }
 
 impl Reason {

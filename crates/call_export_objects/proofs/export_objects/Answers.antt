@@ -5,7 +5,7 @@ use Rattle.call_export_objects.proofs.Steps.{objects_fit, objects_off}
 use Rattle.call_export_objects.proofs.export_objects.Goals as goal
 
 pub returns-then-not-in_range : goal.returns-then-not-in_range
-returns-then-not-in_range c = rw c.after.ensures (sym (objects_off _ _ _ _ _ (so c.in_range.ensures c.if-not-in_range.true)))
+returns-then-not-in_range c = rw (c.after.ensures, c.from.ensures) (sym (objects_off _ _ _ _ _ (so c.in_range.ensures c.if-not-in_range.true)))
 
 pub returns : goal.returns
 returns c = c.export_rows.ensures ∙ sym (objects_fit _ _ _ _ _ (so c.in_range.ensures c.if-not-in_range.false))
