@@ -22,6 +22,7 @@ pub struct Walked {
 }
 
 // Refusal 3 for a block and a field.
+// Kept: beside word_refusal, which differs in the limit. Each is a definition of its own, in one line, and no function of the limit is shorter.
 pub fn field_place(m: u32, b: u32, k: u32) -> Result<(), Refusal>
     requires { m ≤ 16384 }
     ensures { refused_by result ≡ field_place m b k }

@@ -18,6 +18,7 @@ use machine::{Damaged, Ran, Regs, Seen, Step};
 
 // The first pass over the references among a block's eight words, from set bit to set bit of the byte. It answers the byte of the words
 // that name white blocks, or that a reference is neither 0 nor an allocated block.
+// Kept: the loops over a byte keep what is left of it, and its trailing zeros choose the next word (docs/DECISIONS.md). They count no index.
 pub fn seen_all(m: u32, colours: &[u32], part: &[u32], byte: u8) -> Result<u32, Damaged>
     requires { (m ≤ 16384) × CellsFit m colours.now × (length part.now ≡ 8) }
     ensures { (g : ℕ) → result ≡ looked (all_sound (coloured m g colours.now) (references part.now byte)) (whites (coloured m g colours.now) part.now byte) }

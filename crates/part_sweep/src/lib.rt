@@ -99,6 +99,7 @@ pub fn sweep_unit(r: Regs, words: &mut [u32], colours: &mut [u32], bytes: &mut [
 }
 
 // At most n units, as long as the sweep lasts.
+// Kept: the loop counts no index: where it stands is the register of the position, which a unit moves on.
 pub fn sweeps(r: Regs, words: &mut [u32], colours: &mut [u32], bytes: &mut [u8], n: u32) -> Ran
     requires { Ready (heap r words.old colours.old bytes.old) × (r.phase ≡ sweeping) × (1 ≤ n) }
     ensures { Went n (heap r words.old colours.old bytes.old) result words.new colours.new bytes.new }

@@ -93,6 +93,7 @@ pub fn stretch(r: Regs, words: &mut [u32], colours: &mut [u32], bytes: &mut [u8]
 }
 
 // n units, stopping at the first damage: the units finished before it stand and are counted.
+// Kept: a turn of the loop does as many units as their phase lasts, so that no range counts them.
 pub fn run(r: Regs, words: &mut [u32], colours: &mut [u32], bytes: &mut [u8], n: u32) -> Ran
     requires { Ready (heap r words.old colours.old bytes.old) }
     ensures { ran result words.new colours.new bytes.new ≡ run n 0 (heap r words.old colours.old bytes.old) }
