@@ -15,15 +15,13 @@ use machine::{Answer, Regs};
 pub fn passes(r: Regs, words: &[u32], colours: &[u32], bytes: &[u8]) -> bool
     ensures { result ≡ passes (heap r words.now colours.now bytes.now) }
 {
-    if part_checks::entry(r, words, colours, bytes) == 0 {
-        return part_audit::passes(&Lent {
+    part_checks::entry(r, words, colours, bytes) == 0
+        && part_audit::passes(&Lent {
             regs: r,
             words,
             colours,
             bytes,
-        });
-    }
-    false
+        })
 }
 
 // Audit: 1 for a well-formed heap, else 0. It never refuses and changes nothing.
