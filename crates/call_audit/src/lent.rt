@@ -1,7 +1,6 @@
 // A heap's blocks as they lie in its lent buffers.
-ghost use Rattle.std.specs.Prelude.{◌≡◌, ◌≤◌, ◌*◌, length};
 ghost use Rattle.machine.specs.Heap.{heap};
-ghost use Rattle.machine.specs.Colouring.{CellsFit};
+ghost use Rattle.machine.specs.Frame.{Sized};
 
 use machine::Regs;
 use part_block::read::Blocks;
@@ -13,10 +12,7 @@ pub struct Lent<'a> {
     pub words: &'a [u32],
     pub colours: &'a [u32],
     pub bytes: &'a [u8],
-    pub ghost most: { regs.blocks ≤ 16384 },
-    pub ghost words_fit: { length words.now ≡ 8 * regs.blocks },
-    pub ghost colours_fit: { CellsFit regs.blocks colours.now },
-    pub ghost bytes_fit: { length bytes.now ≡ regs.blocks },
+    pub ghost sized: { Sized (heap regs words.now colours.now bytes.now) },
 }
 
 impl<'a> Blocks for Lent<'a> {

@@ -1,5 +1,5 @@
 -- Laws of the heap that an image holds.
---     held_numbers         it fits where its M and U do
+--     held_fits            it fits where its M and U do, by the test of these
 --     held_most            then M is at most 16,384, as get_registers asks
 --     held_as              it has the registers of the image and the sections behind them
 --     held_laid            where it fits, those sections are laid out as such
@@ -19,6 +19,7 @@ use Rattle.machine.specs.Entry.{numbers_fit, lengths_fit, heap_fits, legal, entr
 use Rattle.machine.specs.Audit.{passes}
 use Rattle.machine.specs.Image.{past_numbers, colours_in, bytes_in, words_in, heap_in, decode}
 use Rattle.machine.specs.Frame.{at, framed}
+use Rattle.machine.proofs.Tests.{so}
 use Rattle.machine.proofs.Entering.{fits_lengths}
 use Rattle.machine.proofs.Refusals.{fits_most, unfit, illegal, entered}
 use Rattle.machine.proofs.Passing.{entry_no}
@@ -39,9 +40,12 @@ module _ (i : List ℕ) (f : framed i ≡ true) where
   unfolding decode
   held_as e p = rw (e, p) refl
 
-  pub held_numbers : {t : Bool} {m u : ℕ} → m ≡ at i 4 → u ≡ at i 8 → t ≡ numbers_fit m u → t ≡ heap_fits (decode i)
-  held_numbers {t} {m} {u} e g n =
+  pub held_fits : {t v : Bool} {m u : ℕ} → m ≡ at i 4 → u ≡ at i 8 → t ≡ numbers_fit m u → t ≡ v → heap_fits (decode i) ≡ v
+  held_fits {t} {v} {m} {u} e g n p =
+      let n : t ≡ heap_fits (decode i) =
       rw (← held_as refl refl, regs_placed i f, ← e, ← g) (fits_lengths m u _ _ _ (rw e lengths_read) n)
+      in
+      so n p
 
   module _ (h : heap_fits (decode i) ≡ true) where
     pub held_most : at i 4 ≤ 16384

@@ -17,14 +17,12 @@ fn passes(image: &[u8]) -> bool
     requires { framed image.now ≡ true }
     ensures { result ≡ passes (decode image.now) }
 {
-    if part_checks::numbers_fit(number_at(image, 4), number_at(image, 8)) {
-        let regs = frame::get_registers(image);
-        if part_checks::legal(regs) {
-            let sections = frame::behind_registers(image);
-            return part_audit::passes(&Sections { regs, sections });
-        }
+    if !part_checks::numbers_fit(number_at(image, 4), number_at(image, 8)) {
+        return false;
     }
-    false
+    let regs = frame::get_registers(image);
+    let sections = frame::behind_registers(image);
+    part_checks::legal(regs) && part_audit::passes(&Sections { regs, sections })
 }
 
 // Whether the bytes are the image of a heap that the audit accepts, with nothing after it.

@@ -1,7 +1,6 @@
 // A heap's blocks as they lie in an image: in the sections behind its registers.
-ghost use Rattle.std.specs.Prelude.{◌≡◌, ◌≤◌, true};
 ghost use Rattle.machine.specs.Image.{heap_in};
-ghost use Rattle.machine.specs.Frame.{blocks_framed};
+ghost use Rattle.part_image_audit.specs.Laid.{Laid};
 
 use machine::Regs;
 use part_block::read::Blocks;
@@ -12,8 +11,7 @@ use part_image::{frame, number_at};
 pub struct Sections<'a> {
     pub regs: Regs,
     pub sections: &'a [u8],
-    pub ghost most: { regs.blocks ≤ 16384 },
-    pub ghost whole: { blocks_framed regs.blocks sections.now ≡ true },
+    pub ghost laid: { Laid regs.blocks sections.now },
 }
 
 impl<'a> Blocks for Sections<'a> {

@@ -11,7 +11,7 @@ returns-in_default c = entry_no _ (λ z. refuses _ (refused_so c.entry.ensures c
 pub invariant_of-passes : goal.invariant_of-passes
 invariant_of-passes c =
     let d = entry_ready _ (unrefused c.entry.ensures c.in-Ok.is) in
-    record { most = d.most; words_fit = d.words; colours_fit = d.colours; bytes_fit = d.bytes }
+    record { sized = record { most = d.most; words = d.words; colours = d.colours; bytes = d.bytes } }
 
 pub returns : goal.returns
 returns c = c.passes.ensures (unrefused c.entry.ensures c.in-Ok.is)

@@ -5,11 +5,9 @@ use Rattle.part_image_audit.proofs.sections.SectionsBlocks.colour_word.Goals as 
 
 pub number_at-requires : goal.number_at-requires
 number_at-requires c =
-    let s = c.args.self.now in
-    let l = laid_length {m = s.regs.blocks} {j = s.sections.now} (record { whole = s.whole; most = s.most }) in
+    let l = laid_length c.args.self.now.laid in
     omega arith
 
 pub returns : goal.returns
 returns c =
-    let s = c.args.self.now in
-    colour_laid {m = s.regs.blocks} {j = s.sections.now} (record { whole = s.whole; most = s.most }) c.requires c.number_at.ensures
+    colour_laid c.args.self.now.laid c.requires c.number_at.ensures

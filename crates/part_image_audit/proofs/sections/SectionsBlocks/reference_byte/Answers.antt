@@ -5,12 +5,10 @@ use Rattle.part_image_audit.proofs.sections.SectionsBlocks.reference_byte.Goals 
 
 pub bounds-self-at : goal.bounds-self-at
 bounds-self-at c =
-    let s = c.args.self.now in
-    let l = laid_length {m = s.regs.blocks} {j = s.sections.now} (record { whole = s.whole; most = s.most }) in
+    let l = laid_length c.args.self.now.laid in
     let e = c.bytes_at-at.ensures in
     omega arith
 
 pub returns : goal.returns
 returns c =
-    let s = c.args.self.now in
-    byte_laid {m = s.regs.blocks} {j = s.sections.now} (record { whole = s.whole; most = s.most }) c.requires c.bytes_at-at.ensures
+    byte_laid c.args.self.now.laid c.requires c.bytes_at-at.ensures

@@ -5,12 +5,10 @@ use Rattle.part_image_audit.proofs.sections.SectionsBlocks.word.Goals as goal
 
 pub number_at-requires : goal.number_at-requires
 number_at-requires c =
-    let s = c.args.self.now in
-    let l = laid_length {m = s.regs.blocks} {j = s.sections.now} (record { whole = s.whole; most = s.most }) in
+    let l = laid_length c.args.self.now.laid in
     let e = c.words_at-at.ensures in
     omega arith
 
 pub returns : goal.returns
 returns c =
-    let s = c.args.self.now in
-    word_laid {m = s.regs.blocks} {j = s.sections.now} (record { whole = s.whole; most = s.most }) c.requires.1 c.requires.0 c.words_at-at.ensures c.number_at.ensures
+    word_laid c.args.self.now.laid c.requires.1 c.requires.0 c.words_at-at.ensures c.number_at.ensures
