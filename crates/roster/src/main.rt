@@ -106,7 +106,8 @@ fn run<R: Print>(rt: &R, night: &mut Night, out: &mut [u32; ROOM]) -> io::Result
 
 // Says on standard error where not all could be written.
 fn main(rt: HostRuntime) {
-    let mut night = Night::spent();
+    let mut night = Night::new();
+    night.spend();
     let mut out = [0u32; ROOM];
     if run(&rt, &mut night, &mut out).is_err() {
         let _ = rt.eprintln("standard output could not be written: what was printed is not all");

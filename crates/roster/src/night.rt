@@ -86,7 +86,7 @@ fn number(n: u32, k: u32) -> u32 {
 
 impl Night {
     // A night before its first call.
-    fn new() -> Self {
+    pub(crate) fn new() -> Self {
         Night {
             heap: Heap::new(),
             first: 0,
@@ -152,16 +152,14 @@ impl Night {
     }
 
     // A whole night: an empty heap, the block that holds the list in its word 0, and the rows.
-    pub(crate) fn spent() -> Self {
-        let mut night = Night::new();
-        night.call(Command::Format(16384, 28));
-        night.last = night.call(Command::Allocate(0, 0));
+    pub(crate) fn spend(&mut self) {
+        self.call(Command::Format(16384, 28));
+        self.last = self.call(Command::Allocate(0, 0));
         for n in 1..=ROWS {
-            night.row(n);
+            self.row(n);
         }
-        let marked = night.marked;
-        night.second = night.call(Command::Read(marked, 7));
-        night
+        let marked = self.marked;
+        self.second = self.call(Command::Read(marked, 7));
     }
 
     // The export of the night's list.
