@@ -56,16 +56,13 @@ pub(crate) fn dropped(night: &mut Night, out: &mut [u32; ROOM]) -> Exported {
 
 // The colour word of the block b becomes c. Answers what it was, or c where there is none.
 fn recolour(colours: &mut [u32], b: u32, c: u32) -> u32 {
-    if b < 2 {
+    let Some(at) = b.checked_sub(2) else {
         return c;
-    }
-    let at = b as usize - 2;
-    if at < colours.len() {
-        let old = colours[at];
-        colours[at] = c;
-        return old;
-    }
-    c
+    };
+    let Some(word) = colours.get_mut(at as usize) else {
+        return c;
+    };
+    std::mem::replace(word, c)
 }
 
 // The colour word of the block b is put outside the layout, and after the export it is what it was.
