@@ -1,249 +1,195 @@
 // A night: rows are stored behind one another, with garbage made after each, and exported. A row is an object of 14 fields in two
 // blocks. Its field 0 links it to the next, the others hold numbers.
-use machine::{Outcome, Regs};
+use machine::{Answer, Outcome};
 use part_rows::Stopped;
 use text_commands::Command;
+use text_lines::Heap;
 
-// The list while it grows: the registers, its first and its last row, row 6,144 with its second block, the row following it, what the
-// last call gave, and how many calls were refused.
-#[derive(Clone, Copy)]
+// The heap's blocks, and 8 words for each.
+pub(crate) const BLOCKS: usize = 16_384;
+
+pub(crate) const WORDS: usize = 131_072;
+
+// How many rows there are, and how many fields each has.
+pub(crate) const ROWS: u32 = 7000;
+
+pub(crate) const FIELDS: u32 = 14;
+
+// Room for as many rows as the heap has blocks.
+pub(crate) const ROOM: usize = 229_376;
+
+// The list while it grows: the heap, the list's first and its last row, row 6,144 with its second block, the row following it, and how many
+// calls were refused.
+#[derive(Drop)]
 pub(crate) struct Night {
-    pub(crate) regs: Regs,
+    pub(crate) heap: Heap<WORDS, BLOCKS>,
     pub(crate) first: u32,
     pub(crate) last: u32,
     pub(crate) marked: u32,
     pub(crate) second: u32,
     pub(crate) following: u32,
-    pub(crate) given: u32,
     pub(crate) refused: u32,
 }
 
-// One more where the call was refused.
-fn count(refused: u32, refusal: u32) -> u32 {
-    if refusal == 0 {
-        return refused;
-    }
-    std::num::wrapping_add_u32(refused, 1)
-}
-
-// The night after a call that left these registers, with its refusal or 0 and its value.
-fn after(t: Night, r: Regs, refusal: u32, value: u32) -> Night {
-    let mut n = t;
-    n.regs = r;
-    n.given = value;
-    n.refused = count(t.refused, refusal);
-    n
-}
-
-// The night after a call on objects.
-fn outcome(t: Night, o: Outcome) -> Night {
-    let a = o.answer;
-    after(t, o.regs, a.refusal, a.value)
-}
-
-// A call of document 01 on the night's heap.
-pub(crate) fn call(
-    t: Night,
-    words: &mut [u32; 131072],
-    colours: &mut [u32; 16384],
-    bytes: &mut [u8; 16384],
-    c: Command,
-) -> Night {
-    let s = text_lines::perform(t.regs, words, colours, bytes, c);
-    after(t, s.regs, s.first, s.second)
-}
-
-// A night before its first call.
-fn fresh() -> Night {
-    let zero = Regs {
-        blocks: 0,
-        pace: 0,
-        phase: 0,
-        grey: 0,
-        free: 0,
-        count: 0,
-        position: 0,
-        root: 0,
-        cycle: 0,
-        mark: 0,
-    };
-    Night {
-        regs: zero,
-        first: 0,
-        last: 0,
-        marked: 0,
-        second: 0,
-        following: 0,
-        given: 0,
-        refused: 0,
-    }
-}
-
-// A night before its first row: an empty heap, and the block that holds the list in its word 0.
-fn begun(words: &mut [u32; 131072], colours: &mut [u32; 16384], bytes: &mut [u8; 16384]) -> Night {
-    let t = call(fresh(), words, colours, bytes, Command::Format(16384, 28));
-    let mut u = call(t, words, colours, bytes, Command::Allocate(0, 0));
-    u.last = u.given;
-    u
+// The answer of a call, whose registers the heap keeps.
+fn kept(heap: &mut Heap<WORDS, BLOCKS>, o: Outcome) -> Answer {
+    heap.regs = o.regs;
+    o.answer
 }
 
 // An object of two blocks, held by word w of the block b.
-fn object(
-    t: Night,
-    words: &mut [u32; 131072],
-    colours: &mut [u32; 16384],
-    bytes: &mut [u8; 16384],
-    b: u32,
-    w: u32,
-) -> Night {
-    let o = call_chain::allocate_chain(t.regs, words, colours, bytes, b, w, 2);
-    outcome(t, o)
+fn object(heap: &mut Heap<WORDS, BLOCKS>, b: u32, w: u32) -> Answer {
+    let o = call_chain::allocate_chain(
+        heap.regs,
+        &mut heap.words,
+        &mut heap.colours,
+        &mut heap.bytes,
+        b,
+        w,
+        2,
+    );
+    kept(heap, o)
 }
 
-// The night after row n was taken: it is the last one.
-fn grown(t: Night, n: u32) -> Night {
-    let mut s = t;
-    s.last = t.given;
-    if n == 1 {
-        s.first = t.given;
-    }
-    if n == 6144 {
-        s.marked = t.given;
-    }
-    if n == 6145 {
-        s.following = t.given;
-    }
-    s
+// Field k of an object becomes a number.
+fn store_number(heap: &mut Heap<WORDS, BLOCKS>, b: u32, k: u32, v: u32) -> Answer {
+    let o = call_field::store_field_number(
+        heap.regs,
+        &mut heap.words,
+        &mut heap.colours,
+        &mut heap.bytes,
+        b,
+        k,
+        v,
+    );
+    kept(heap, o)
+}
+
+// Field k of an object becomes a reference.
+fn store_reference(heap: &mut Heap<WORDS, BLOCKS>, b: u32, k: u32, t: u32) -> Answer {
+    let o = call_field::store_field_reference(
+        heap.regs,
+        &mut heap.words,
+        &mut heap.colours,
+        &mut heap.bytes,
+        b,
+        k,
+        t,
+    );
+    kept(heap, o)
 }
 
 // What field k of row n holds: k in the upper half of the word, n in the lower.
 fn number(n: u32, k: u32) -> u32 {
-    std::num::wrapping_add_u32(k << 16, n)
+    (k << 16).wrapping_add(n)
 }
 
-// The fields of row n, the last one: its field 0 is the null reference, the others hold numbers.
-fn filled(
-    t: Night,
-    words: &mut [u32; 131072],
-    colours: &mut [u32; 16384],
-    bytes: &mut [u8; 16384],
-    n: u32,
-) -> Night {
-    let o = call_field::store_field_reference(t.regs, words, colours, bytes, t.last, 0, 0);
-    let mut s = outcome(t, o);
-    let mut k = 1;
-    while k < 14 {
-        let p = call_field::store_field_number(
-            s.regs,
-            words,
-            colours,
-            bytes,
-            s.last,
-            k,
-            number(n, k),
-        );
-        s = outcome(s, p);
-        k += 1;
-    }
-    s
-}
-
-// Two objects of garbage: the root's word 1 holds each until the next.
-fn littered(
-    t: Night,
-    words: &mut [u32; 131072],
-    colours: &mut [u32; 16384],
-    bytes: &mut [u8; 16384],
-) -> Night {
-    let r = t.regs;
-    let u = object(t, words, colours, bytes, r.root, 1);
-    object(u, words, colours, bytes, r.root, 1)
-}
-
-// Row n, held by the last row or by the root, and garbage after it.
-fn row(
-    t: Night,
-    words: &mut [u32; 131072],
-    colours: &mut [u32; 16384],
-    bytes: &mut [u8; 16384],
-    n: u32,
-) -> Night {
-    let u = grown(object(t, words, colours, bytes, t.last, 0), n);
-    let v = filled(u, words, colours, bytes, n);
-    littered(v, words, colours, bytes)
-}
-
-// The rows 1 to 7,000.
-fn stored(
-    t: Night,
-    words: &mut [u32; 131072],
-    colours: &mut [u32; 16384],
-    bytes: &mut [u8; 16384],
-) -> Night {
-    let mut s = t;
-    let mut n = 1;
-    while n <= 7000 {
-        s = row(s, words, colours, bytes, n);
-        n += 1;
-    }
-    s
-}
-
-// A whole night, on buffers for 16,384 blocks.
-pub(crate) fn spent(
-    words: &mut [u32; 131072],
-    colours: &mut [u32; 16384],
-    bytes: &mut [u8; 16384],
-) -> Night {
-    let t = begun(words, colours, bytes);
-    let u = stored(t, words, colours, bytes);
-    let mut v = call(u, words, colours, bytes, Command::Read(u.marked, 7));
-    v.second = v.given;
-    v
-}
-
-// Whether row n of the buffer, counted from 1, has the numbers that were stored in it.
-fn as_stored(out: &[u32], n: u32) -> bool {
-    let mut k: u32 = 1;
-    while k < 14 {
-        let behind = 14 * n as usize + k as usize;
-        if behind < 14 {
-            return false;
-        }
-        let at = behind - 14;
-        if at >= out.len() {
-            return false;
-        }
-        if out[at] != number(n, k) {
-            return false;
-        }
-        k += 1;
-    }
-    true
-}
-
-// How many of the rows 1 to 7,000 are not as they were stored.
-pub(crate) fn unlike(out: &[u32]) -> u32 {
-    let mut found = 0;
-    let mut n = 1;
-    while n <= 7000 {
-        if as_stored(out, n) {
-            n += 1;
-        } else {
-            found = std::num::wrapping_add_u32(found, 1);
-            n += 1;
+impl Night {
+    // A night before its first call.
+    pub(crate) fn new() -> Self {
+        Night {
+            heap: Heap::new(),
+            first: 0,
+            last: 0,
+            marked: 0,
+            second: 0,
+            following: 0,
+            refused: 0,
         }
     }
-    found
+
+    // One call more, refused with this number, or not with 0.
+    fn count(&mut self, refusal: u32) {
+        if refusal != 0 {
+            self.refused = self.refused.wrapping_add(1);
+        }
+    }
+
+    // A call of document 01. Answers the value that it gave.
+    pub(crate) fn call(&mut self, c: Command) -> u32 {
+        let said = self.heap.perform(c);
+        self.count(said.first);
+        said.second
+    }
+
+    // An object of two blocks, held by word w of the block b. Answers its first block.
+    fn object(&mut self, b: u32, w: u32) -> u32 {
+        let a = object(&mut self.heap, b, w);
+        self.count(a.refusal);
+        a.value
+    }
+
+    // Row n was taken: it is the last one.
+    fn grow(&mut self, row: u32, n: u32) {
+        self.last = row;
+        match n {
+            1 => self.first = row,
+            6144 => self.marked = row,
+            6145 => self.following = row,
+            _ => {}
+        }
+    }
+
+    // The fields of row n, the last one: its field 0 is the null reference, the others hold numbers.
+    fn fill(&mut self, n: u32) {
+        let row = self.last;
+        let a = store_reference(&mut self.heap, row, 0, 0);
+        self.count(a.refusal);
+        for k in 1..FIELDS {
+            let a = store_number(&mut self.heap, row, k, number(n, k));
+            self.count(a.refusal);
+        }
+    }
+
+    // Row n, held by the last row or by the root, and two objects of garbage after it: the root's word 1 holds each until the next.
+    fn row(&mut self, n: u32) {
+        let row = self.object(self.last, 0);
+        self.grow(row, n);
+        self.fill(n);
+        let root = self.heap.regs.root;
+        self.object(root, 1);
+        self.object(root, 1);
+    }
+
+    // A whole night: an empty heap, the block that holds the list in its word 0, and the rows.
+    pub(crate) fn spend(&mut self) {
+        self.call(Command::Format(16384, 28));
+        self.last = self.call(Command::Allocate(0, 0));
+        for n in 1..=ROWS {
+            self.row(n);
+        }
+        let marked = self.marked;
+        self.second = self.call(Command::Read(marked, 7));
+    }
+
+    // The export of the night's list.
+    pub(crate) fn exported(&self, out: &mut [u32]) -> Result<u32, Stopped> {
+        let heap = &self.heap;
+        call_export_objects::export_objects(
+            heap.regs,
+            &heap.words,
+            &heap.colours,
+            &heap.bytes,
+            out,
+            self.first,
+            FIELDS,
+            0,
+        )
+    }
 }
 
-// The export of the night's list.
-pub(crate) fn exported(
-    t: Night,
-    words: &[u32; 131072],
-    colours: &[u32; 16384],
-    bytes: &[u8; 16384],
-    out: &mut [u32],
-) -> Result<u32, Stopped> {
-    call_export_objects::export_objects(t.regs, words, colours, bytes, out, t.first, 14, 0)
+// Whether a row of the buffer has the numbers that were stored in row n.
+fn as_stored(row: &[u32], n: u32) -> bool {
+    row.iter()
+        .zip(0..FIELDS)
+        .skip(1)
+        .all(|(word, k)| *word == number(n, k))
+}
+
+// How many of the rows of the night are not as they were stored.
+pub(crate) fn unlike(out: &[u32; ROOM]) -> usize {
+    out.chunks_exact(FIELDS as usize)
+        .zip(1..=ROWS)
+        .filter(|(row, n)| !as_stored(row, *n))
+        .count()
 }

@@ -55,7 +55,8 @@ pub fn line(r: Regs, words: &mut [u32], colours: &mut [u32], bytes: &mut [u8], t
     perform(r, &mut words[..a], &mut colours[..b], &mut bytes[..d], c)
 }
 
-// A heap that a program keeps: the registers, and buffers for N blocks, of W words in all.
+// A heap that a program keeps: the registers, and buffers for N blocks, of W words in all. W is 8N; an array's length can't be worked out
+// from a parameter.
 #[derive(Drop)]
 pub struct Heap<const W: usize, const N: usize> {
     pub regs: Regs,
