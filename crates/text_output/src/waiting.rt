@@ -5,6 +5,7 @@ ghost use Rattle.std.specs.Prelude.{◌≤◌};
 pub(crate) const SIZE: usize = 65536;
 
 // The buffer, how many of its bytes wait, and whether every write so far was done whole.
+// Kept: the flag, since bytes are put and counted after a failure too.
 #[derive(Drop)]
 pub struct Output {
     pub(crate) buffer: [u8; SIZE],
