@@ -9,7 +9,7 @@
 --     damaged_ends, ended_so            units that met damage, and units whose refusal number is known
 --     allocate_refused, allocate_goes     the call
 -- Assumes nothing.
-use Prim.Native.Nat.{ℕ, ◌+◌, ◌-◌, ◌*◌, ◌/◌, ◌%◌, min, max, ◌≤◌, ◌<◌}
+use Prim.Native.Nat.{ℕ, ◌+◌, ◌-◌, ◌*◌, ◌/◌, ◌%◌, min, max, ◌≤◌}
 use mathlib.Core.Path.{◌≡◌, refl, sym, ◌∙◌, ap}
 use mathlib.Core.Logic.{◌≢◌}
 use mathlib.Core.Bool.{Bool, true, false}
@@ -26,7 +26,7 @@ use Rattle.machine.specs.Registers.{with_free, with_count, with_root, with_mark}
 use Rattle.machine.specs.Block.{base}
 use Rattle.machine.specs.Colouring.{is_free, painted}
 use Rattle.machine.specs.Heap.{Heap, heap, colouring, with_regs}
-use Rattle.machine.specs.State.{holder_refusal, may_be_black, new_colour}
+use Rattle.machine.specs.State.{may_be_black, new_colour}
 use Rattle.machine.specs.Entry.{entry, holder_place, is_block_or_none}
 use Rattle.machine.specs.Answers.{Given, answering, refuse}
 use Rattle.machine.specs.Units.{RunEnd, stopped, run}
@@ -37,7 +37,7 @@ use Rattle.machine.proofs.Tests.{by_eq}
 use Rattle.machine.proofs.Rounding.{ceil_rounds}
 use Rattle.machine.proofs.Blocks.{block_as}
 use Rattle.machine.proofs.Entering.{first_zero}
-use Rattle.machine.proofs.Refusals.{stops, passes, word_zero}
+use Rattle.machine.proofs.Refusals.{stops, word_zero}
 use Rattle.machine.proofs.Storing.{unless_stops, unless_passes}
 
 module _ (r : Regs) where

@@ -6,17 +6,14 @@
 --     chain-units              the units due fit
 --     chain_refused, chain_goes     the call
 -- Assumes nothing.
-use Prim.Native.Nat.{ℕ, ◌+◌, ◌-◌, ◌*◌, ◌/◌, max, ◌≤◌, ◌<◌}
-use mathlib.Core.Path.{◌≡◌, refl, sym, ◌∙◌, ap}
+use Prim.Native.Nat.{ℕ, ◌+◌, ◌-◌, ◌*◌, max, ◌≤◌, ◌<◌}
+use mathlib.Core.Path.{◌≡◌, sym, ◌∙◌, ap}
 use mathlib.Core.Logic.{◌≢◌}
-use mathlib.Core.Bool.{Bool, true, false, ◌&&◌}
-use mathlib.Core.List.{List}
+use mathlib.Core.Bool.{◌&&◌}
 use native.Mathlib.Omega.{arith}
 use lib.Dec.{leb, eqb}
-use lib.ListN.{get_or}
-use borrow.Author.Tests.{eq-eqb, ne_eqb, le-leb, lt-leb, leb-true}
+use borrow.Author.Tests.{ne_eqb, le-leb, lt-leb, leb-true}
 use Rattle.machine.specs.declared.Regs.{Regs}
-use Rattle.std.specs.Prelude.{if◌then◌else◌}
 use Rattle.machine.specs.Tests.{◌▷◌}
 use Rattle.machine.specs.Heap.{Heap}
 use Rattle.machine.specs.Entry.{entry, holder_place}
@@ -31,7 +28,7 @@ use Rattle.machine.proofs.Rounding.{round_most}
 use Rattle.machine.proofs.Entering.{first_zero, choose_zero}
 use Rattle.machine.proofs.Storing.{unless_stops, unless_passes}
 use Rattle.machine.proofs.Walking.{at_frees}
-use Rattle.machine.proofs.Serving.{Hanging, Waiting, block_of}
+use Rattle.machine.proofs.Serving.{Hanging, block_of}
 
 pub chain_hangs : (n : ℕ) → Hanging chain n
 chain_hangs n =

@@ -3,18 +3,17 @@
 --     Gathered, gathered       what refusal number 0 establishes
 -- Assumes nothing.
 use Prim.Native.Nat.{ℕ, ◌≤◌, ◌<◌}
-use mathlib.Core.Path.{◌≡◌, refl, sym, ◌∙◌}
+use mathlib.Core.Path.{◌≡◌, refl}
 use mathlib.Core.Logic.{◌≢◌}
-use mathlib.Core.Bool.{Bool, true, false, ◌&&◌}
+use mathlib.Core.Bool.{true, false}
 use native.Mathlib.Omega.{arith}
 use lib.Dec.{leb, eqb}
-use borrow.Author.Tests.{eq-eqb, ne_eqb, le-leb, lt-leb, leb-true}
+use borrow.Author.Tests.{ne_eqb, le-leb, lt-leb, leb-true}
 use Rattle.std.specs.Prelude.{if◌then◌else◌}
-use Rattle.machine.specs.Tests.{◌▷◌}
 use Rattle.machine.specs.Heap.{Heap}
 use Rattle.machine.specs.State.{holder_refusal}
 use Rattle.machine.specs.Several.{first_frees, list_walks, distinct, head_refusal, several_refusal, take_several_refusal}
-use Rattle.machine.proofs.Tests.{both_true, if_true, by_eq}
+use Rattle.machine.proofs.Tests.{both_true}
 use Rattle.machine.proofs.Entering.{first_zero, choose_zero}
 use Rattle.machine.proofs.Refusals.{stops, passes}
 

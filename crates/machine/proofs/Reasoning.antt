@@ -4,8 +4,8 @@
 --     live_kept, live_reached     the reason of such a block: not found by the search, or found
 --     why_given             what the call gives;     why-unfit, why-bad, why-nowhere, why-short, why-told     its ways out
 -- Assumes nothing.
-use Prim.Native.Nat.{ℕ, ◌*◌, ◌-◌, ◌≤◌}
-use mathlib.Core.Path.{◌≡◌, refl, sym, ◌∙◌}
+use Prim.Native.Nat.{ℕ, ◌*◌, ◌-◌}
+use mathlib.Core.Path.{◌≡◌, refl}
 use mathlib.Core.Logic.{◌≢◌}
 use mathlib.Core.Bool.{Bool, true, false, ◌&&◌}
 use mathlib.Core.List.{List, []}
@@ -14,12 +14,11 @@ use lib.Dec.{leb, eqb}
 use lib.ListN.{length, replicate}
 use borrow.Author.Tests.{eq-eqb, ne_eqb}
 use Rattle.machine.specs.declared.Colour.{Colour}
-use Rattle.machine.specs.declared.State.{State}
 use Rattle.machine.specs.declared.State.TheVariants as states
 use Rattle.machine.specs.declared.Reason.{Reason}
 use Rattle.machine.specs.declared.Reason.TheVariants.{Reachable, Kept}
 use Rattle.machine.specs.declared.Why.{Why}
-use Rattle.std.specs.Prelude.{if◌then◌else◌, Result, Ok, Err}
+use Rattle.std.specs.Prelude.{Result, Ok, Err}
 use Rattle.machine.specs.Tests.{◌▷◌}
 use Rattle.machine.specs.Block.{is_block}
 use Rattle.machine.specs.Heap.{Heap, colouring}

@@ -4,7 +4,7 @@
 --     ceil_rounds          the library's `div_ceil` is this quotient
 -- Assumes nothing.
 use Prim.Native.Nat.{ℕ, zero, suc, ◌+◌, ◌-◌, ◌*◌, ◌/◌, ◌%◌, ◌≤◌, ◌<◌, min}
-use mathlib.Core.Path.{◌≡◌, refl, sym, ◌∙◌, ap}
+use mathlib.Core.Path.{◌≡◌, sym, ◌∙◌, ap}
 use Rattle.std.proofs.Math.Nat.{add-mul-div_left}
 use native.Mathlib.Nat.{div-add-mod, mod-lt, mul-le-mul_left, div-lt_iff_lt-mul, div-eq_of_lt}
 use native.Mathlib.Omega.{arith}

@@ -7,7 +7,7 @@
 --     searched_most, searched_room     no more blocks are found than there are entries, and an entry that is 0 leaves room for a block
 -- Assumes nothing.
 use Prim.Native.Nat.{ℕ, zero, suc, ◌+◌, ◌-◌, ◌*◌, ◌/◌, ◌%◌, ◌^◌, ◌≤◌, ◌<◌}
-use mathlib.Core.Path.{◌≡◌, refl, sym, ◌∙◌, ap, subst}
+use mathlib.Core.Path.{◌≡◌, refl, sym, ◌∙◌, subst}
 use mathlib.Core.Logic.{◌≢◌}
 use mathlib.Core.Bool.{true, false, ◌&&◌}
 use mathlib.Core.List.{List, [], ◌∷◌, ◌++◌}
@@ -17,8 +17,7 @@ use lib.Dec.{eqb, ltb}
 use lib.ListN.{get_or, set, length, replicate, length-append, length-set, length-replicate, get_or-replicate, get_or-append, get_or-eq_default}
 use lib.Seq.{get_or-set_same, get_or-set_other, get_or-append_seam, set_out}
 use borrow.Author.Tests.{eqb-true, eq-eqb, ne_eqb, lt-ltb, ltb-true, ltb-false, le-ltb}
-use Rattle.std.specs.Prelude.{if◌then◌else◌}
-use Rattle.machine.specs.Block.{is_block, index, bit, references_from, references}
+use Rattle.machine.specs.Block.{is_block, index, bit, references_from}
 use Rattle.machine.specs.WellFormed.{Block}
 use Rattle.machine.specs.Search.{named_in, Found, found, came_to, meet, visit_from, visit, onward, begun, search}
 use Rattle.machine.specs.Searched.{non_zeros, Ways, Searched}

@@ -11,18 +11,16 @@
 --     serves_refused, serves_done, serves_damaged     what follows the units
 -- The takes write words of blocks that are taken, and of the holder, which isn't free. So the links of the blocks that wait stay.
 -- Assumes nothing.
-use Prim.Native.Nat.{ℕ, zero, suc, ◌+◌, ◌-◌, ◌*◌, ◌<◌, ◌≤◌}
+use Prim.Native.Nat.{ℕ, ◌+◌, ◌-◌, ◌*◌, ◌<◌, ◌≤◌}
 use mathlib.Core.Path.{◌≡◌, refl, sym, ◌∙◌, ap}
 use mathlib.Core.Logic.{◌≢◌}
-use mathlib.Core.Bool.{Bool, true, false}
+use mathlib.Core.Bool.{true}
 use mathlib.Core.List.{List, [], ◌∷◌}
 use native.Mathlib.Omega.{arith}
 use native.Mathlib.Numerals.{add-one}
-use lib.Dec.{eqb}
 use lib.ListN.{get_or, set, length, length-set}
 use lib.Seq.{get_or-set_other}
 use borrow.Author.Tests.{eq-eqb, ne_eqb}
-use Rattle.std.specs.Prelude.{if◌then◌else◌}
 use Rattle.machine.specs.Block.{place}
 use Rattle.machine.specs.Heap.{Heap}
 use Rattle.machine.specs.WellFormed.{Block}
@@ -36,14 +34,14 @@ use Rattle.machine.specs.Answers.{Given, answering}
 use Rattle.machine.specs.Units.{RunEnd, stopped}
 use Rattle.machine.specs.Colouring.{free_colour, is_free}
 use Rattle.machine.specs.Heap.{colouring, colour_of}
-use Rattle.machine.specs.State.{holder_refusal, is_live, state_from, state_in, state_of, new_colour}
+use Rattle.machine.specs.State.{is_live, state_from, state_in, state_of, new_colour}
 use Rattle.machine.specs.Ready.{Ready}
 use Rattle.machine.proofs.Tests.{by_eq, clash}
 use Rattle.machine.proofs.Blocks.{block_as}
 use Rattle.machine.proofs.Colours.{repaint_length}
 use Rattle.machine.proofs.Refusals.{stops, holder_live}
 use Rattle.machine.proofs.Walking.{onward, at_frees, apart, walks_blocks, walks_free}
-use Rattle.machine.proofs.Gathering.{Gathered, gathered}
+use Rattle.machine.proofs.Gathering.{gathered}
 
 pub record Listed (n : ℕ) (at : ℕ → ℕ) (m : ℕ) : Type 0 where
   pub block : (j : ℕ) → j < n → Block m (at j)

@@ -9,15 +9,15 @@
 -- Two equal blocks have equal links, so what follows them is equal too. Where the blocks i and j are equal, i < j ≤ n, block n
 -- equals block n - (j - i), which comes earlier: a repeat anywhere shows at the last block, and one comparison a block finds it.
 -- Assumes nothing.
-use Prim.Native.Nat.{ℕ, zero, suc, ◌+◌, ◌-◌, ◌<◌, ◌≤◌}
+use Prim.Native.Nat.{ℕ, zero, suc, ◌+◌, ◌-◌, ◌<◌}
 use mathlib.Core.Path.{◌≡◌, refl, sym, ◌∙◌, ap}
 use mathlib.Core.Logic.{◌≢◌}
-use mathlib.Core.Bool.{Bool, true, false, ◌&&◌, ◌||◌, not}
+use mathlib.Core.Bool.{true, false, ◌&&◌, not}
 use native.Mathlib.Nat.{zero-add, suc-add}
 use native.Mathlib.Omega.{arith}
 use lib.Dec.{eqb}
 use lib.ListN.{get_or}
-use borrow.Author.Tests.{eq-eqb, ne_eqb, eqb-false}
+use borrow.Author.Tests.{eq-eqb, ne_eqb}
 use Rattle.machine.specs.Colouring.{is_free}
 use Rattle.machine.specs.Heap.{Heap, colouring}
 use Rattle.machine.specs.Entry.{is_block_or_none}

@@ -10,7 +10,7 @@ use Prim.Native.Nat.{ℕ, zero, suc, ◌+◌, ◌-◌, ◌*◌, ◌/◌, ◌%◌
 use mathlib.Core.Path.{◌≡◌, refl, sym, ◌∙◌, ap, subst}
 use mathlib.Core.Logic.{◌≢◌}
 use mathlib.Core.Bool.{Bool, true, false}
-use mathlib.Core.List.{List, [], ◌∷◌}
+use mathlib.Core.List.{List, ◌∷◌}
 use native.Mathlib.Nat.{pow-suc}
 use native.Mathlib.Omega.{arith}
 use lib.Count.{count_trailing_zeros, under}
@@ -19,11 +19,10 @@ use lib.ListN.{length, get_or}
 use Rattle.machine.specs.declared.Seen.{Seen}
 use Rattle.machine.specs.declared.Seen.TheVariants.{Settled, ToGrey, Damaged}
 use Rattle.std.specs.Prelude.{if◌then◌else◌}
-use Rattle.machine.specs.WellFormed.{Block}
 use Rattle.machine.specs.Block.{references}
 use Rattle.machine.specs.Colouring.{Colouring, to_black, first_grey, grey_white, grey_all}
 use Rattle.machine.specs.OneUnit.{all_sound}
-use Rattle.machine.specs.Seen.{seen, unharmed, Named}
+use Rattle.machine.specs.Seen.{seen, Named}
 use Rattle.machine.proofs.Tests.{by_test}
 use Rattle.machine.proofs.Blocks.{is_block_block}
 use Rattle.machine.proofs.Steps.{never}

@@ -17,7 +17,7 @@ use denote.Enum.Declared.{tag_of}
 use Rattle.machine.specs.contracts.Step.{the_type}
 use Rattle.machine.specs.declared.Step.{Step}
 use Rattle.machine.specs.declared.Step.TheVariants.{Mark, Damage}
-use Rattle.machine.specs.Registers.{idle, marking, sweeping}
+use Rattle.machine.specs.Registers.{marking, sweeping}
 use Rattle.machine.specs.OneUnit.{step}
 use Rattle.machine.proofs.Tests.{clash}
 use Rattle.machine.proofs.Steps.{never, step_cases}

@@ -58,7 +58,12 @@ pub fn stop(r: Regs, k: u32) -> u32
 }
 
 // Sweeping: the white block at the position is freed.
-pub fn reclaim(r: Regs, words: &mut [u32], colours: &mut [u32], bytes: &mut [u8]) -> Result<Regs, Damaged>
+pub fn reclaim(
+    r: Regs,
+    words: &mut [u32],
+    colours: &mut [u32],
+    bytes: &mut [u8],
+) -> Result<Regs, Damaged>
     requires { Ready (heap r words.old colours.old bytes.old) × Block r.blocks r.position }
     ensures { (ended r (settling result) words.new colours.new bytes.new ≡ act Reclaim (heap r words.old colours.old bytes.old)) × Onward r result }
 {
@@ -85,7 +90,12 @@ pub fn whiten(r: Regs, colours: &mut [u32]) -> Regs
 }
 
 // A unit while sweeping, but that the sweep's end is left to the last of them.
-pub fn sweep_unit(r: Regs, words: &mut [u32], colours: &mut [u32], bytes: &mut [u8]) -> Result<Regs, Damaged>
+pub fn sweep_unit(
+    r: Regs,
+    words: &mut [u32],
+    colours: &mut [u32],
+    bytes: &mut [u8],
+) -> Result<Regs, Damaged>
     requires { Ready (heap r words.old colours.old bytes.old) × (r.phase ≡ sweeping) }
     ensures { (ended r (settling result) words.new colours.new bytes.new ≡ unit (heap r words.old colours.old bytes.old)) × Onward r result }
 {

@@ -1,5 +1,4 @@
 -- `part_sweep::sweeps` meets its contract: the whole is what remains of it, unit by unit. Assumes nothing.
-use Prim.Native.Nat.{◌-◌}
 use mathlib.Core.Path.{refl, ◌∙◌}
 use native.Mathlib.Omega.{arith}
 use Rattle.part_sweep.proofs.Ending.{stop_within}

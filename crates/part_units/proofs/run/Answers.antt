@@ -1,5 +1,5 @@
 -- `part_units::run` meets its contract: the whole run is what is left of it, stretch by stretch. Assumes nothing.
-use Rattle.std.proofs.Common.{◌-◌, sym, refl, ◌∙◌, arith}
+use Rattle.std.proofs.Common.{sym, refl, ◌∙◌, arith}
 use Rattle.part_step.proofs.Going.{run_first, run_at, left_on, left_off, run_out}
 use Rattle.part_units.proofs.run.Goals as goal
 
