@@ -56,6 +56,7 @@ impl<'a> Objects<'a> {
     ghost use Rattle.call_export_objects.specs.Lent.{lent};
 
     // The block that so many links lead to from the block b on, or the first refusal on the way.
+    #[tactic(auto, using(part_field::proofs::Walking::walked_block), unfolding(crate::specs::Finds::found))]
     fn walk(&self, b: u32, links: u32) -> Result<u32, Reason>
         requires { Ready (lent self.now) × Block self.now.regs.blocks b }
         ensures { result ≡ found (walk_refusal links b (lent self.now)) (field_block links b (lent self.now)) }
@@ -105,6 +106,7 @@ impl<'a> Rows for Objects<'a> {
 
 // Export: the rows of the list that starts at the object start, where 0 is the empty list, and goes on by the reference in
 // field link. A row is an object's first fields. Each row passes the four tests, in the order of Reason, before it is written.
+#[tactic(auto, unfolding(crate::specs::Objects::export_objects))]
 pub fn export_objects(
     r: Regs,
     words: &[u32],
@@ -134,6 +136,7 @@ pub fn export_objects(
 }
 
 // The export, with its answer in numbers.
+#[tactic(auto, unfolding(part_rows::specs::Numbers::in_numbers))]
 pub fn export_objects_numbers(
     r: Regs,
     words: &[u32],
