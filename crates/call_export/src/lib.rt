@@ -81,6 +81,7 @@ pub fn export(
 }
 
 // The export, with its answer in numbers.
+#[tactic(auto, unfolding(part_rows::specs::Numbers::in_numbers))]
 pub fn export_numbers(
     r: Regs,
     words: &[u32],

@@ -92,6 +92,7 @@ impl<'a> Rows for Objects<'a> {
 
 // Export: the rows of the list that starts at the object start, where 0 is the empty list, and goes on by the reference in
 // field link. A row is an object's first fields. Each row passes the four tests, in the order of Reason, before it is written.
+#[tactic(auto, unfolding(crate::specs::Objects::export_objects))]
 pub fn export_objects(
     r: Regs,
     words: &[u32],
@@ -121,6 +122,7 @@ pub fn export_objects(
 }
 
 // The export, with its answer in numbers.
+#[tactic(auto, unfolding(part_rows::specs::Numbers::in_numbers))]
 pub fn export_objects_numbers(
     r: Regs,
     words: &[u32],

@@ -2,7 +2,6 @@
 --     followed_to, followed_refused, followed_number     the three ways of followed.     to_followed    what a link that leads on says
 --     export_whole         an export at its start
 --     export_end, export_circle, export_full, export_off, export_on     the ways of export_from, where n of m rows are written
---     numbers_as           an export with its answer in numbers
 --     same_given, same_numbers     no second outcome is what an export gives: two things equal to a third are equal
 -- Assumes nothing.
 use Prim.Native.Nat.{ℕ, zero, suc, ◌+◌, ◌-◌, ◌*◌, ◌≤◌, ◌<◌}
@@ -21,7 +20,7 @@ use Rattle.part_rows.specs.declared.Reason.TheVariants.{Circle, NoRoom, Refused,
 use Rattle.part_rows.specs.declared.Stopped.{Stopped}
 use Rattle.part_rows.specs.declared.ExportAnswer.{ExportAnswer}
 use Rattle.part_rows.specs.Shape.{Shape}
-use Rattle.part_rows.specs.Numbers.{numbers_of, NumbersGiven, in_numbers}
+use Rattle.part_rows.specs.Numbers.{NumbersGiven}
 use Rattle.part_rows.specs.Rows.{ExportGiven, complete, stopped, followed, lead, with_row, onward, export_from, export_rows}
 
 module _ (a : ReadAnswer) where
@@ -77,11 +76,6 @@ module _ (s : Shape) where
             → export_from s (m - n) n b out ≡ export_from s (m - (n + 1)) (n + 1) next out'
         unfolding export_from onward
         export_on q o = rw fuel (simp (ne_eqb b 0 some, le-ltb (length out) (s.width * n + s.width) room, ← e, q, o))
-
-pub numbers_as : {g : ExportGiven} {a : ExportAnswer} {x : Result ℕ Stopped} {out : List ℕ}
-    → (record { answer = x; out = out }) ≡ g → a ≡ numbers_of x → (record { answer = a; out = out }) ≡ in_numbers g
-unfolding in_numbers
-numbers_as e f = rw (← e, f) refl
 
 pub same_given : {g : ExportGiven} {x y : Result ℕ Stopped} {os ps : List ℕ}
     → (record { answer = x; out = os }) ≡ g → (record { answer = y; out = ps }) ≡ g → (x ≡ y) × (os ≡ ps)
