@@ -7,7 +7,12 @@ use text_commands::Command;
 const NO_COLOUR: u32 = 4_294_967_293;
 
 // The export after one call, and then another call.
-fn between(night: &mut Night, out: &mut [u32; ROOM], c: Command, d: Command) -> Result<u32, Stopped> {
+fn between(
+    night: &mut Night,
+    out: &mut [u32; ROOM],
+    c: Command,
+    d: Command,
+) -> Result<u32, Stopped> {
     night.call(c);
     let found = night.exported(out);
     night.call(d);
@@ -66,7 +71,11 @@ fn recolour(colours: &mut [u32], b: u32, c: u32) -> u32 {
 }
 
 // The colour word of the block b is put outside the layout, and after the export it is what it was.
-pub(crate) fn discoloured(night: &mut Night, out: &mut [u32; ROOM], b: u32) -> Result<u32, Stopped> {
+pub(crate) fn discoloured(
+    night: &mut Night,
+    out: &mut [u32; ROOM],
+    b: u32,
+) -> Result<u32, Stopped> {
     let heap = &mut night.heap;
     let old = recolour(&mut heap.colours, b, NO_COLOUR);
     let found = night.exported(out);
