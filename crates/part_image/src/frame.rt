@@ -99,6 +99,7 @@ pub fn framed(image: &[u8]) -> bool
 }
 
 // The mark: the tenth register, or M + 1 where there are nine.
+#[tactic(auto, using(crate::proofs::Framing::framed_least))]
 fn get_mark(image: &[u8]) -> u32
     requires { (framed image.now ≡ true) × (at image.now 4 ≤ 16384) }
     ensures { result ≡ (decode image.now).regs.mark }
@@ -110,6 +111,7 @@ fn get_mark(image: &[u8]) -> u32
 }
 
 // The registers.
+#[tactic(auto, using(crate::proofs::Framing::framed_least))]
 pub fn get_registers(image: &[u8]) -> Regs
     requires { (framed image.now ≡ true) × (at image.now 4 ≤ 16384) }
     ensures { result ≡ (decode image.now).regs }

@@ -48,6 +48,7 @@ fn write(came: &[u32], x: u32, n: usize, path: &mut [u32])
 }
 
 // The path to the block x, and behind it 0 up to the buffer's end. Answers how many pairs it has.
+#[tactic(auto, using(crate::proofs::Walks::path_most))]
 pub fn put_path(came: &[u32], x: u32, path: &mut [u32]) -> u32
     requires { Traced came.now x × (2 * length came.now ≤ length path.old) }
     ensures { (result ≡ length (path_to (length came.now) came.now x))

@@ -12,14 +12,6 @@ use Rattle.part_search.proofs.visit.Goals as goal
 pub loop-rest-init : goal.loop-rest-init
 loop-rest-init c = (c.ranges.byte.fits, c.requires.3, refl)
 
-pub overflow_cast-t : goal.overflow_cast-t
-overflow_cast-t c =
-    let l = lowest_within _ _ c.loop-rest.invariant.0 c.loop-rest-test.true refl in search rules
-
-pub offset_bounds-part-t : goal.offset_bounds-part-t
-offset_bounds-part-t c =
-    let l = lowest_within _ _ c.loop-rest.invariant.0 c.loop-rest-test.true refl in search rules
-
 pub bounds-part-t : goal.bounds-part-t
 bounds-part-t c =
     let l = lowest_within _ _ c.loop-rest.invariant.0 c.loop-rest-test.true refl in search rules
@@ -28,15 +20,8 @@ pub meet-k-requires : goal.meet-k-requires
 meet-k-requires c =
     (c.requires.0, c.requires.2, lowest_within _ _ c.loop-rest.invariant.0 c.loop-rest-test.true refl, c.loop-rest.invariant.1)
 
-pub overflow_shl-rest : goal.overflow_shl-rest
-overflow_shl-rest c =
-    let l = lowest_within _ _ c.loop-rest.invariant.0 c.loop-rest-test.true refl in omega arith
-
 pub overflow_sub-rest : goal.overflow_sub-rest
 overflow_sub-rest c = lowest_sub _ _ c.loop-rest.invariant.0 c.loop-rest-test.true refl
-
-pub loop-rest-smaller : goal.loop-rest-smaller
-loop-rest-smaller c = lowest_less _ _ c.loop-rest.invariant.0 c.loop-rest-test.true refl
 
 pub loop-rest-preserved : goal.loop-rest-preserved
 loop-rest-preserved c =
@@ -49,12 +34,6 @@ loop-rest-preserved c =
           (meet_searched _ _ _ _ _ c.requires.2 (lowest_within _ _ f n refl) lies.searched),
       visit_step c.args.m c.args.b c.args.part.now _ _ f n refl _ c.loop-rest.invariant.2 c.meet-k.ensures.1,
     )
-
-pub shape_of-queue : goal.shape_of-queue
-shape_of-queue c = c.loop-rest.invariant.1.places ∙ sym c.requires.3.places
-
-pub shape_of-came : goal.shape_of-came
-shape_of-came c = c.loop-rest.invariant.1.searched.entries ∙ sym c.requires.3.searched.entries
 
 pub returns : goal.returns
 returns c =
