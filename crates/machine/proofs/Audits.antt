@@ -1,23 +1,16 @@
 -- Laws of the audit's loops: what is tested, counted or walked so far, and what is still to come.
---     all_start, all_on, all_off, all_end      a test of all blocks: the start, a step on, a block that fails, the end
---     count_start, count_on, count_end         a count: the start, a step on, the end; one-most: a block adds at most 1
+--     all_on, all_off, all_end      a test of all blocks: a step on, a block that fails, the end
+--     count_on, count_end         a count: a step on, the end; one-most: a block adds at most 1
 --     walk_on, walk_off, walk_end              a walk: a step on, a block that fails, the end
 -- Assumes nothing.
-use Prim.Native.Nat.{ℕ, ◌+◌, ◌-◌, ◌≤◌}
-use mathlib.Core.Path.{◌≡◌, refl, sym, ◌∙◌}
+use Prim.Native.Nat.{ℕ, ◌+◌, ◌≤◌}
+use mathlib.Core.Path.{◌≡◌, sym, ◌∙◌}
 use mathlib.Core.Bool.{Bool, true, false}
 use native.Mathlib.Omega.{arith}
 use native.Mathlib.Numerals.{add-one}
 use lib.Dec.{eqb}
 use Rattle.std.specs.Prelude.{if◌then◌else◌}
 use Rattle.machine.specs.Audit.{all_from, count_from, walk}
-
-module _ (p : ℕ → Bool) (m : ℕ) where
-  pub all_start : all_from p m 2 ≡ all_from p (m + 2 - 2) 2
-  all_start = let e : m + 2 - 2 ≡ m = omega arith in rw e refl
-
-  pub count_start : count_from p m 2 ≡ 0 + count_from p (m + 2 - 2) 2
-  count_start = let e : m + 2 - 2 ≡ m = omega arith in rw e (omega arith)
 
 module _ (p : ℕ → Bool) (t : Bool) (n b : ℕ) (i : t ≡ all_from p n b) where
   pub all_on : (k : ℕ) → n ≡ k + 1 → p b ≡ true → t ≡ all_from p k (b + 1)

@@ -2,7 +2,6 @@
 --     below_eight, shifted     eight bit numbers, and the powers of 2 that a byte's shift makes
 --     set_fits, clear_fits     a byte stays a byte when a clear bit is set or a set bit is cleared
 --     bit_set, bit_was_set, bit_cleared, bit_was_clear     the two ways of set_bit and of clear_bit
---     eight_stores             eight words after the stores that free a block
 --     free_rest                its words but the first are 0
 --     set_here, set_there, clear_here, clear_there     a byte's bits after one of them is set or cleared: that bit, and any other
 -- Assumes nothing.
@@ -10,11 +9,11 @@ use Prim.Native.Nat.{ℕ, zero, suc, ◌+◌, ◌-◌, ◌*◌, ◌/◌, ◌%◌
 use mathlib.Core.Path.{◌≡◌, refl, sym, ◌∙◌, ap}
 use mathlib.Core.Logic.{◌≢◌}
 use mathlib.Core.Bool.{true, false}
-use mathlib.Core.List.{List, [], ◌∷◌}
+use mathlib.Core.List.{List}
 use native.Mathlib.Nat.{pow-suc, mul_comm, one-le-pow, add-div_right, div-eq-sub-div, div-eq_of_lt, div-div-eq-div-mul}
 use native.Mathlib.Omega.{arith}
 use lib.Dec.{eqb, leb}
-use lib.ListN.{length, get_or, set}
+use lib.ListN.{get_or, set}
 use lib.Seq.{set-get_or}
 use borrow.Author.Tests.{eqb-true, eqb-false, eq-eqb, ne_eqb, leb-true, leb-false}
 use Rattle.machine.specs.Block.{index, byte_of, bit, with_bit, without_bit, set_bit, clear_bit, free_words}
@@ -73,19 +72,6 @@ pub free_rest : (link w : ℕ) → 1 ≤ w → w ≤ 7 → get_or (free_words li
 free_rest link w o l =
     below_eight (λ v. 1 ≤ v → get_or (free_words link) v 0 ≡ 0) (λ i. absurd (omega arith)) (λ i. refl) (λ i. refl) (λ i. refl) (λ i. refl) (λ i. refl)
     (λ i. refl) (λ i. refl) w (omega arith) o
-
-pub eight_stores : (ws : List ℕ) (link : ℕ) → length ws ≡ 8
-    → set (set (set (set (set (set (set (set ws 0 link) 1 0) 2 0) 3 0) 4 0) 5 0) 6 0) 7 0 ≡ free_words link
-eight_stores [] link e = absurd (omega arith)
-eight_stores (a ∷ []) link e = absurd (omega arith)
-eight_stores (a ∷ b ∷ []) link e = absurd (omega arith)
-eight_stores (a ∷ b ∷ c ∷ []) link e = absurd (omega arith)
-eight_stores (a ∷ b ∷ c ∷ d ∷ []) link e = absurd (omega arith)
-eight_stores (a ∷ b ∷ c ∷ d ∷ x ∷ []) link e = absurd (omega arith)
-eight_stores (a ∷ b ∷ c ∷ d ∷ x ∷ f ∷ []) link e = absurd (omega arith)
-eight_stores (a ∷ b ∷ c ∷ d ∷ x ∷ f ∷ g ∷ []) link e = absurd (omega arith)
-eight_stores (a ∷ b ∷ c ∷ d ∷ x ∷ f ∷ g ∷ h ∷ []) link e = refl
-eight_stores (a ∷ b ∷ c ∷ d ∷ x ∷ f ∷ g ∷ h ∷ i ∷ l) link e = absurd (omega arith)
 
 -- Bits of a number of any size. Bit u + 1 of a number is bit u of its half.
 halved : (a u : ℕ) → a / 2 ^ suc u ≡ a / 2 / 2 ^ u

@@ -3,7 +3,6 @@ pub mod Tests
 pub mod Rounding
 pub mod Blocks
 pub mod Hues
-pub mod Lists
 pub mod Listing
 pub mod Counting
 pub mod Exact

@@ -1,6 +1,5 @@
 -- Laws of the audit's tests, one for each way through the code.
 --     grey_block, free_block                       a grey and a free number are blocks
---     first_word                                   word 0 of a block stands where its words begin
 --     frees_no, frees_as                           the two ways of frees_pass
 --     name_none, name_as                           the two ways of may_name
 --     white_as, doomed_as, grey_off, grey_named, black_off, black_as, freed_off, freed_as, outside_off     a block, state by state
@@ -19,16 +18,14 @@ use mathlib.Core.Logic.{◌≢◌}
 use mathlib.Core.Bool.{Bool, true, false, ◌&&◌, or-false, or-true}
 use mathlib.Core.List.{List}
 use borrow.Author.Tests.{le-leb, lt-leb, eq-eqb, ne_eqb, eqb-true}
-use native.Mathlib.Omega.{arith}
 use lib.Dec.{eqb}
-use lib.ListN.{get_or}
 use Rattle.machine.specs.declared.Regs.{Regs}
 use Rattle.machine.specs.declared.Colour.{Colour}
 use Rattle.machine.specs.declared.Colour.TheVariants.{White, Grey, Black, Free, Outside}
 use Rattle.machine.specs.declared.State.{State}
 use Rattle.machine.specs.declared.State.TheVariants as states
 use Rattle.machine.specs.Registers.{marking}
-use Rattle.machine.specs.Block.{base, word_of, byte_of, eight_words, references}
+use Rattle.machine.specs.Block.{word_of, byte_of, eight_words, references}
 use Rattle.machine.specs.Colouring.{Colouring, colour_in, free_colour, grey_colour, is_grey, is_free, greys_pass, head_legal}
 use Rattle.machine.specs.Heap.{Heap, colouring, colour_of}
 use Rattle.machine.specs.State.{ahead, state_from, state_in, state_of, may_be_black}
@@ -47,9 +44,6 @@ module _ (k : Colouring) (b : ℕ) where
 
   pub free_block : is_free k b ≡ true → Block k.blocks b
   free_block e = inside_block k b (λ o. clash e (rw o refl))
-
-pub first_word : (ws : List ℕ) (b : ℕ) → get_or ws (base b) 0 ≡ word_of ws b 0
-first_word ws b = let e : base b + 0 ≡ base b = omega arith in rw e refl
 
 module _ (r : Regs) (ws : List ℕ) (k : Colouring) (n : ℕ) (c : n ≡ count_from (is_free k) r.blocks 2) where
   pub frees_no : n ≢ r.count → false ≡ frees_pass r ws k

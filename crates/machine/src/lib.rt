@@ -26,6 +26,7 @@ pub const LAST_FIELD: u32 = 1_791;
 pub const MOST_CHAIN: u32 = 256;
 
 // The phases.
+// Kept: numbers, since C holds them in the record, and a call takes a record with any number in it.
 pub const IDLE: u32 = 0;
 
 pub const MARKING: u32 = 1;
@@ -40,6 +41,7 @@ pub const NONE_USED: u32 = 1;
 pub const FIRST: u32 = 2;
 
 // The colour words that are no link.
+// Kept: numbers, since C lends the buffer of them, and any word may stand there. What a word means is the enum Colour.
 pub const WHITE: u32 = 0;
 
 pub const BLACK: u32 = 4_294_967_295;
@@ -82,6 +84,7 @@ impl From<Refusal> for u32 {
 }
 
 // The numbers by which a state is told to the host.
+// Kept: numbers, since the C header names them: enum dergamoyne_block_state, and below enum dergamoyne_why_reason.
 pub const TOLD_LIVE_WHITE: u32 = 1;
 
 pub const TOLD_DOOMED: u32 = 2;

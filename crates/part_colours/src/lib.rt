@@ -154,7 +154,7 @@ pub fn grey_white(head: u32, colours: &mut [u32], b: u32) -> u32
 pub fn less_two(b: u32) -> u32
     ensures { result ≡ (b + 4294967294) % 4294967296 }
 {
-    ((b as u64 + 4294967294) % 4294967296) as u32
+    b.wrapping_sub(2)
 }
 
 // What the reference b is to the block that is marked.
