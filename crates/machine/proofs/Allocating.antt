@@ -1,6 +1,5 @@
 -- Laws of Allocate, one for each way through the code.
 --     due_pace, due_share      the units due
---     first_not_free, first_link        the test of the first free block
 --     list_none, list_uncounted, list_counted, list_bad, list_good     the tests of the free list
 --     new_black, new_white              the new block's colour
 --     taken_as, held_root, held_word    the taking and the storing
@@ -24,10 +23,10 @@ use Rattle.machine.specs.declared.Colour.TheVariants.{White, Black}
 use Rattle.machine.specs.Tests.{◌▷◌}
 use Rattle.machine.specs.Registers.{with_free, with_count, with_root, with_mark}
 use Rattle.machine.specs.Block.{base}
-use Rattle.machine.specs.Colouring.{is_free, painted}
+use Rattle.machine.specs.Colouring.{painted}
 use Rattle.machine.specs.Heap.{Heap, heap, colouring, with_regs}
 use Rattle.machine.specs.State.{may_be_black, new_colour}
-use Rattle.machine.specs.Entry.{entry, holder_place, is_block_or_none}
+use Rattle.machine.specs.Entry.{entry, holder_place}
 use Rattle.machine.specs.Answers.{Given, answering, refuse}
 use Rattle.machine.specs.Units.{RunEnd, stopped, run}
 use Rattle.machine.specs.WellFormed.{Block}
@@ -61,19 +60,6 @@ module _ (r : Regs) where
   new_white b e = simp e
 
 module _ (h : Heap) where
-  pub first_not_free : {t : Bool} → t ≡ is_free (colouring h) h.regs.free → t ≡ false → false ≡ first_fits h
-  unfolding first_fits
-  first_not_free t f =
-      let e : is_free (colouring h) h.regs.free ≡ false = sym t ∙ f in
-      simp e
-
-  pub first_link : {t x : Bool} (link : ℕ) → t ≡ is_free (colouring h) h.regs.free → t ≡ true
-      → link ≡ get_or h.words (base h.regs.free) 0 → x ≡ is_block_or_none h.regs.blocks link → x ≡ first_fits h
-  unfolding first_fits
-  first_link link t f l x =
-      let e : is_free (colouring h) h.regs.free ≡ true = sym t ∙ f in
-      simp e (x ∙ ap (is_block_or_none h.regs.blocks) (l ∙ rw (add-zero (base h.regs.free)) refl))
-
   pub list_none : h.regs.free ≡ 0 → h.regs.count ≡ 0 → 7 ≡ list_refusal h
   unfolding list_refusal
   list_none f c = simp (eq-eqb h.regs.free 0 f, eq-eqb h.regs.count 0 c)

@@ -2,11 +2,11 @@
 // Then how a call gives back its answer: answered, and for a call that did no units refused and done.
 #![tactic(auto)]
 
-ghost use Rattle.std.specs.Prelude.{◌≡◌, ◌≢◌, true, ◌&&◌, ◌||◌, List, ℕ, ◌≤◌, leb, eqb, length, if◌then◌else◌};
+ghost use Rattle.std.specs.Prelude.{◌≡◌, ◌≢◌, true, ◌&&◌, ◌||◌, List, ℕ, ◌≤◌, leb, eqb, ◌*◌, length, if◌then◌else◌};
 ghost use Rattle.machine.specs.WellFormed.{Block};
-ghost use Rattle.machine.specs.Block.{is_block};
+ghost use Rattle.machine.specs.Block.{is_block, word_of};
 ghost use Rattle.machine.specs.Heap.{heap};
-ghost use Rattle.machine.specs.Colouring.{CellsFit, head_legal};
+ghost use Rattle.machine.specs.Colouring.{coloured, is_free, CellsFit, head_legal};
 ghost use Rattle.machine.specs.State.{refusal_of, holder_refusal, target_refusal};
 ghost use Rattle.machine.specs.Entry.{numbers_fit, lengths_fit, fits, is_block_or_none, mark_legal, position_legal, legal, entry, word_refusal, holder_place, target_place};
 ghost use Rattle.machine.specs.Refusal.{number, refused_by};
@@ -224,6 +224,14 @@ pub fn target_refusal(
         Refusal::TargetGone,
         part_state::state_at(m, phase, position, colours, t),
     )
+}
+
+// Whether the block a can be taken off the free list: it is coloured free, and its link is 0 or a block.
+pub fn can_be_taken(m: u32, words: &[u32], colours: &[u32], a: u32) -> bool
+    requires { (m ≤ 16384) × (length words.now ≡ 8 * m) × CellsFit m colours.now × Block m a }
+    ensures { (g : ℕ) → result ≡ (is_free (coloured m g colours.now) a && is_block_or_none m (word_of words.now a 0)) }
+{
+    part_colours::free_at(m, colours, a) && is_block_or_none(m, words[8 * (a as usize - 2)])
 }
 
 // Every refusal of Read, where 1 and 2 are known, e: then 3, then 8 and 5. Who reads many blocks tests for 1 and 2 once.

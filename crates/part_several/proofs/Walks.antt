@@ -1,5 +1,4 @@
 -- Laws of the walk along the first blocks of the free list, one for each way through the code, and what it establishes.
---     fits_none, fits_not_free, fits_link     the three ways of fits_at.
 --     fits_block, fits_next                   what fits is a block, and its link is 0 or one
 --     walked_on, walked_off, walked_end       a step of the walk, a block that can't be taken, the end
 --     walked_last, walked_none                the walk ends at the last of n blocks exactly where all n can be taken
@@ -13,7 +12,7 @@
 use Prim.Native.Nat.{ℕ, zero, suc, ◌+◌, ◌-◌, ◌*◌, ◌<◌, ◌≤◌}
 use mathlib.Core.Path.{◌≡◌, refl, sym, ◌∙◌, ap}
 use mathlib.Core.Logic.{◌≢◌}
-use mathlib.Core.Bool.{Bool, true, false, ◌&&◌, ◌||◌, not, beq}
+use mathlib.Core.Bool.{Bool, true, false, ◌&&◌, not, beq}
 use mathlib.Core.List.{List}
 use native.Mathlib.Nat.{add-zero}
 use native.Mathlib.Omega.{arith}
@@ -37,23 +36,6 @@ use Rattle.part_several.specs.Walk.{fits_at, walked_to, Within}
 module _ (k : Colouring) (ws : List ℕ) (a : ℕ) where
   abbrev m : ℕ
   m = k.blocks
-
-  pub fits_none : a ≡ 0 → false ≡ fits_at k ws a
-  unfolding fits_at
-  fits_none z = simp (eq-eqb a 0 z)
-
-  pub fits_not_free : {t : Bool} → a ≢ 0 → t ≡ is_free k a → t ≡ false → false ≡ fits_at k ws a
-  unfolding fits_at
-  fits_not_free n t f =
-      let e : is_free k a ≡ false = sym t ∙ f in
-      simp (ne_eqb a 0 n, e)
-
-  pub fits_link : {t x : Bool} (link : ℕ) → a ≢ 0 → t ≡ is_free k a → t ≡ true
-      → link ≡ get_or ws (base a) 0 → x ≡ is_block_or_none m link → x ≡ fits_at k ws a
-  unfolding fits_at
-  fits_link link n t f l x =
-      let e : is_free k a ≡ true = sym t ∙ f in
-      simp (ne_eqb a 0 n, e) (x ∙ ap (is_block_or_none m) (l ∙ rw (add-zero (base a)) refl))
 
   pub fits_block : (a ≢ 0 → Block m a) → fits_at k ws a ≡ true → Block m a × (word_of ws a 0 ≢ 0 → Block m (word_of ws a 0))
   unfolding fits_at

@@ -17,13 +17,7 @@ pub fn fits_at(m: u32, words: &[u32], colours: &[u32], a: u32) -> bool
     requires { (m ≤ 16384) × (length words.now ≡ 8 * m) × CellsFit m colours.now × (a ≢ 0 → Block m a) }
     ensures { (g : ℕ) → result ≡ fits_at (coloured m g colours.now) words.now a }
 {
-    if a == 0 {
-        return false;
-    }
-    if part_colours::free_at(m, colours, a) {
-        return part_checks::is_block_or_none(m, words[8 * (a as usize - 2)]);
-    }
-    false
+    a != 0 && part_checks::can_be_taken(m, words, colours, a)
 }
 
 // The last of n blocks that can be taken, from a on by their links; 0 where one of them can't.

@@ -15,10 +15,7 @@ pub fn first_fits(r: Regs, words: &[u32], colours: &[u32]) -> bool
     requires { (r.blocks ≤ 16384) × (length words.now ≡ 8 * r.blocks) × CellsFit r.blocks colours.now × Block r.blocks r.free }
     ensures { (bs : List ℕ) → result ≡ first_fits (heap r words.now colours.now bs) }
 {
-    if part_colours::free_at(r.blocks, colours, r.free) {
-        return part_checks::is_block_or_none(r.blocks, words[8 * (r.free as usize - 2)]);
-    }
-    false
+    part_checks::can_be_taken(r.blocks, words, colours, r.free)
 }
 
 // Refusals 8 and 7 for the free list.
