@@ -8,7 +8,7 @@ ghost use Rattle.machine.specs.Tell.{state_number, tell_state};
 use machine::{Answer, Regs, State};
 
 // The number that a state is told by.
-// Kept: a match and no `as` over the enum's own numbers, since a state's number is the C header's and not the order of the enum.
+// Kept: a match. The numbers are the C header's, and `s as u32 + 1` would rest on the order in which the enum has its states.
 fn number(s: State) -> u32
     ensures { result ≡ state_number s }
 {

@@ -109,6 +109,7 @@ fn reason(
 
 // Why: refused by 1 where M, the pace or a length doesn't fit, by 10 where the audit turns the heap down, by 3 where b is no block, by 13
 // where a lent buffer is too short; else the reason is told, the path is written, with 0 behind it, and the working buffers end as 0.
+// Kept: the refusal as its number: the definition `why` tells it so, and `theory_why` rests on it.
 pub fn why(
     r: Regs,
     words: &[u32],

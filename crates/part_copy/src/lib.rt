@@ -10,7 +10,7 @@ const LINK: usize = machine::LINK as usize;
 
 // Words to as many words.
 // Kept: word by word, since `copy_from_slice` of a length that only the call knows is compiled to a call of `memmove`, and the archive needs
-// no symbol but `memset` (`include/dergamoyne.h`, `tests/c/run`).
+// no symbol but `memset` (`tests/c/run`).
 fn copy(to: &mut [u32], from: &[u32])
     requires { length to.old ≡ length from.now }
     ensures { to.new ≡ from.now }

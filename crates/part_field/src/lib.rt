@@ -91,7 +91,7 @@ pub fn walk(r: Regs, words: &[u32], colours: &[u32], bytes: &[u8], b: u32, links
     Walked { block: at, left: 0 }
 }
 
-// The first refusal of a walk that came so far, or 0: where it stopped early that of following on, else 8 and 5 of its last block.
+// The first refusal of a walk that came so far, if any: where it stopped early that of following on, else 8 and 5 of its last block.
 pub fn walk_refusal(
     r: Regs,
     words: &[u32],

@@ -1,14 +1,14 @@
 -- Laws of the loop that fills a buffer from an image.
 --     filled_all                   all is filled
---     fours_more                   one number more
+--     fours_more, bytes_more       one number more, one byte more
 -- Assumes nothing.
 use Prim.Native.Nat.{ℕ, zero, suc, ◌+◌, ◌*◌, ◌≤◌, ◌<◌}
 use mathlib.Core.Path.{◌≡◌, refl, ◌∙◌}
 use mathlib.Core.List.{List, [], ◌∷◌, ◌++◌, append_assoc, append-nil}
 use native.Mathlib.Numerals.{add-one}
 use native.Mathlib.Omega.{arith}
-use lib.ListN.{length, get_or, drop, set, drop_of_length-le}
-use lib.Seq.{drop-cons, drop-drop, set_at}
+use lib.ListN.{length, get_or, take, drop, set, drop_of_length-le}
+use lib.Seq.{length-take-le, take-suc, drop-cons, drop-drop, set_at}
 use Rattle.machine.specs.Image.{number, numbers_from}
 use Rattle.machine.proofs.Fours.{from_length}
 
@@ -33,4 +33,11 @@ pub fours_more : (k : ℕ) (i to : List ℕ) {v : ℕ} {now : List ℕ} → k < 
 fours_more k i to {v} l e f =
     let g = filled_more k v (numbers_from k i) to l (from_length k i) f in
     let s : numbers_from (k + 1) i ≡ numbers_from k i ++ (v ∷ []) = rw (add-one k, from_suc k i, e) refl in
+    rw s g
+
+pub bytes_more : (k : ℕ) (i to : List ℕ) {now : List ℕ} → k < length to → k < length i → now ≡ take k i ++ drop k to
+    → set now k (get_or i k 0) ≡ take (k + 1) i ++ drop (k + 1) to
+bytes_more k i to l n f =
+    let g = filled_more k (get_or i k 0) (take k i) to l (length-take-le k i (omega arith)) f in
+    let s : take (k + 1) i ≡ take k i ++ (get_or i k 0 ∷ []) = rw (add-one k, take-suc i k 0 n) refl in
     rw s g

@@ -6,15 +6,16 @@
 --     put_placed, rest_placed  a part that was lent and written, and all from a place on, when it is back
 --     number_placed            the number that four bytes of a list say
 --     fours_on, fours_all      a loop that writes numbers: one more, and all
+--     bytes_on, bytes_all      a loop that writes single bytes
 --     section                  a count and what it counts
 -- Assumes nothing.
 use Prim.Native.Nat.{ℕ, ◌+◌, ◌-◌, ◌*◌, ◌≤◌, ◌<◌}
 use mathlib.Core.Path.{◌≡◌, refl, sym, ◌∙◌}
-use mathlib.Core.List.{List, [], ◌++◌, append_assoc, append-nil}
+use mathlib.Core.List.{List, [], ◌∷◌, ◌++◌, append_assoc, append-nil}
 use native.Mathlib.Numerals.{add-one}
 use native.Mathlib.Omega.{arith}
-use lib.ListN.{length, get_or, take, drop, length-append, length-drop, take-append-drop, drop_of_length-le}
-use lib.Seq.{length-take-le, take-suc, take_all, take_at, drop_at, drop-drop, get_or-drop}
+use lib.ListN.{length, get_or, take, drop, set, length-append, length-drop, take-append-drop, drop_of_length-le}
+use lib.Seq.{length-take-le, take-suc, take_all, take_at, drop_at, drop-drop, get_or-drop, set_split}
 use Rattle.machine.specs.Image.{four, fours_of, number}
 use Rattle.machine.proofs.Fours.{four_length, fours_length, fours_append}
 use Rattle.part_image.specs.Placing.{placed}
@@ -70,6 +71,10 @@ rest_placed at ys out =
     let z : 0 + length ys ≡ length ys = omega arith in
     rw (take_all (length out - at) q l, drop_of_length-le q {i = length out - at} l, append-nil, z, drop-drop) refl
 
+one_placed : (at v : ℕ) (out : List ℕ) → at < length out → set out at v ≡ placed at (v ∷ []) out
+unfolding placed
+one_placed at v out l = rw (add-one at) (set_split out at v l)
+
 pub number_placed : (at : ℕ) (i : List ℕ)
     → get_or i at 0 + 256 * get_or i (at + 1) 0 + 65536 * get_or i (at + 2) 0 + 16777216 * get_or i (at + 3) 0 ≡ number (drop at i)
 unfolding number
@@ -88,6 +93,16 @@ module _ (k : ℕ) (xs out : List ℕ) {now : List ℕ} where
 
   pub fours_all : length xs ≤ k → now ≡ placed 0 (fours_of (take k xs)) out → now ≡ placed 0 (fours_of xs) out
   fours_all l i = i ∙ rw (take_all k xs l) refl
+
+  pub bytes_on : k < length xs → k < length out → now ≡ placed 0 (take k xs) out → set now k (get_or xs k 0) ≡ placed 0 (take (k + 1) xs) out
+  bytes_on l r i =
+      let n : length (take k xs) ≡ k = length-take-le k xs (omega arith) in
+      let z : 0 + length (take k xs) ≡ k = omega arith in
+      let s : k < length (placed 0 (take k xs) out) = rw (placed_length 0 (take k xs) out (omega arith)) r in
+      rw (i, one_placed k (get_or xs k 0) (placed 0 (take k xs) out) s, add-one k, take-suc xs k 0 l) (rw z at (placed_on 0 (take k xs) out (get_or xs k 0 ∷ []) (omega arith)))
+
+  pub bytes_all : length xs ≤ k → now ≡ placed 0 (take k xs) out → now ≡ placed 0 xs out
+  bytes_all l i = i ∙ rw (take_all k xs l) refl
 
 pub section : (at : ℕ) (bs out : List ℕ) (n : ℕ) {now then : List ℕ} → at ≤ length out → now ≡ placed at (four n) out
     → then ≡ placed (at + 4) bs now → then ≡ placed at (four n ++ bs) out

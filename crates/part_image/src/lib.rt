@@ -84,13 +84,18 @@ impl Item for u8 {
 
     ghost sized = { λ xs. Prim.search rules };
 
-    #[tactic(auto, unfolding(crate::specs::Placing::placed))]
+    // Kept: byte by byte, here and in `get`, since `copy_from_slice` is compiled to a call of `memmove` where the length isn't known, and the
+    // archive needs no symbol but `memset` (`tests/c/run`).
     fn put(xs: &[u8], out: &mut [u8]) {
-        out[..xs.len()].copy_from_slice(xs);
+        for (k, x) in xs.iter().enumerate() {
+            out[k] = *x;
+        }
     }
 
     fn get(image: &[u8], to: &mut [u8]) {
-        to.copy_from_slice(&image[..to.len()]);
+        for (k, x) in to.iter_mut().enumerate() {
+            *x = image[k];
+        }
     }
 }
 

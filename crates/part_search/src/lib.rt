@@ -27,6 +27,7 @@ fn meet(m: u32, b: u32, w: u32, x: u32, queue: &mut [u32], came: &mut [u32], n: 
 }
 
 // The references among the eight words of the block b, from set bit to set bit of its byte. Answers the number found afterwards.
+// Kept: the loop keeps what is left of the byte, and its trailing zeros choose the next word (docs/DECISIONS.md). It counts no index.
 pub fn visit(
     m: u32,
     part: &[u32],

@@ -104,7 +104,7 @@ fn run<R: Print>(rt: &R, night: &mut Night, out: &mut [u32; ROOM]) -> io::Result
     println!(rt; "calls refused, in all: {}", night.refused)
 }
 
-// Says on standard error where not all could be written.
+// A night, and all that is said of it; on standard error a word where not all could be written.
 fn main(rt: HostRuntime) {
     let mut night = Night::new();
     night.spend();
