@@ -10,7 +10,7 @@
 -- A reader's state goes up to 65,536 at most, and no more bytes are kept than the line's buffer holds.
 -- Assumes nothing.
 use Rattle.std.specs.Prelude.{ℕ, ◌≤◌, ◌<◌, ◌≡◌, true, false, List, Option, Some, None, MatchOption, eqb, ltb, take, if◌then◌else◌}
-use Rattle.text_output.specs.declared.waiting.Output.{Output}
+use Rattle.text_output.specs.declared.Output.{Output}
 use Rattle.text_output.specs.Output.{Flushed}
 use Rattle.text_streams.specs.declared.reader.Input.{Input}
 use Rattle.text_streams.specs.Streams.{CutOut}
