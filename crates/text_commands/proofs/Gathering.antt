@@ -1,7 +1,6 @@
 -- Laws of the loop that reads a line's numbers: those read so far, and those still to come.
 --     Gathered             what holds from turn to turn
 --     gather_start, gather_on, gather_off, gather_more, gather_end     the start, a number, something else, more numbers than 3, the end
---     letter_on, letter_off     a line whose first piece is one byte, and one whose isn't
 -- Assumes nothing.
 use Prim.Native.Nat.{ℕ, ◌+◌, ◌≤◌, ◌<◌, suc}
 use mathlib.Core.Path.{◌≡◌, refl, sym, ◌∙◌, ap}

@@ -41,7 +41,7 @@ pub struct Said {
 
 // Reads the numbers after a place, which is that of a space or the end: one after each space. Answers how many there are, where all that
 // stands there are numbers, and no more than a command has.
-// Kept: each by its index, since on a way out of a loop over `iter_mut` no proof knows the array but by the names of the check's own.
+// Kept: by index. `iter_mut().enumerate()` with the early returns was tried, and the proof didn't close: a way out doesn't tell the array.
 fn numbers_after(text: &[u8], start: Cursor, numbers: &mut [u32; MOST_NUMBERS]) -> Option<usize>
     requires { start.at < length text.now → get_or text.now start.at 0 ≡ space }
     ensures { NumbersOf (later (drop start.at text.now)) result numbers.new }

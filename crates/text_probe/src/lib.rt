@@ -66,7 +66,7 @@ fn fill_all(
 }
 
 // Does a case on buffers of its lengths, and puts what comes of it.
-// Kept: the buffers one by one, since a case takes a part of each, and a field's part, lent behind a reference, gets no generated proof.
+// Kept: one by one. `&mut heap.words[..n]` behind a reference was tried, and the proof didn't close: none is generated for a field's part.
 fn do_filled<R: Print + Eprint>(
     rt: &R,
     text: &[u8],
