@@ -1,7 +1,7 @@
 -- Laws of the loop that reads a line's numbers: those read so far, and those still to come.
 --     Gathered             what holds from turn to turn
 --     gather_start, gather_on, gather_off, gather_more, gather_end     the start, a number, something else, more numbers than 3, the end
---     letter_on, letter_off     a line whose first piece is one byte, and one whose isn't
+--     gather_stays         a number's place is left as it is
 -- Assumes nothing.
 use Prim.Native.Nat.{ℕ, ◌+◌, ◌≤◌, ◌<◌, suc}
 use mathlib.Core.Path.{◌≡◌, refl, sym, ◌∙◌, ap}
@@ -13,6 +13,7 @@ use lib.ListN.{length, get_or, take, drop, set, length-append, length-set, lengt
 use lib.Seq.{take-suc-set}
 use Rattle.std.specs.Prelude.{Some, None}
 use Rattle.std.proofs.lemmas.Bool.{false≢true}
+use Rattle.std.proofs.lemmas.List.{set-get_or}
 use Rattle.machine.proofs.Steps.{never}
 use Rattle.text_numbers.specs.declared.Number.{Number}
 use Rattle.text_numbers.specs.Numbers.{space, piece, later, value, is_number, number_at}
@@ -28,6 +29,9 @@ pub record Gathered (text : List ℕ) (first at i : ℕ) (ns : List ℕ) : Type 
 pub gather_start :
     (text : List ℕ) (at : ℕ) (ns : List ℕ) → length ns ≡ 3 → (at < length text → get_or text at 0 ≡ space) → Gathered text at at 0 ns
 gather_start text at ns r h = record { room = r; stands = h; whole = refl; rest = refl }
+
+pub gather_stays : {text : List ℕ} {first at i : ℕ} {ns : List ℕ} → Gathered text first at i ns → Gathered text first at i (set ns i (get_or ns i 0))
+gather_stays {ns} g = rw (set-get_or ns _ 0) g
 
 -- what reading a number found, taken apart
 record Found (text : List ℕ) (at : ℕ) (n : Number) : Type 0 where

@@ -41,18 +41,17 @@ pub struct Said {
 
 // Reads the numbers after a place, which is that of a space or the end: one after each space. Answers how many there are, where all that
 // stands there are numbers, and no more than a command has.
-// Kept: each by its index, since on a way out of a loop over `iter_mut` no proof knows the array but by the names of the check's own.
 fn numbers_after(text: &[u8], start: Cursor, numbers: &mut [u32; MOST_NUMBERS]) -> Option<usize>
     requires { start.at < length text.now → get_or text.now start.at 0 ≡ space }
     ensures { NumbersOf (later (drop start.at text.now)) result numbers.new }
 {
     let mut at = start.at;
-    for count in 0..MOST_NUMBERS {
+    for (count, number) in numbers.iter_mut().enumerate() {
         if text.len() <= at {
             return Some(count);
         }
         let found = text_numbers::number_at(text, Cursor { at: at + 1 })?;
-        numbers[count] = found.value;
+        *number = found.value;
         at = found.end.at;
     }
     if at < text.len() {

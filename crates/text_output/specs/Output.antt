@@ -8,7 +8,7 @@
 -- Assumes nothing.
 use Rattle.std.specs.Prelude.{ℕ, ◌+◌, ◌≤◌, ◌<◌, ◌≡◌, false, List, [], ◌∷◌, ◌++◌, take}
 use Rattle.io.specs.Digits.{last_digits, IsDigitCount}
-use Rattle.text_output.specs.declared.waiting.Output.{Output}
+use Rattle.text_output.specs.declared.Output.{Output}
 
 pub record Flushed (o r : Output) : Type 0 where
   pub none : r.used ≡ 0

@@ -1,19 +1,26 @@
 // What waits to be written on standard output: bytes of a buffer. They are written out when the buffer has no room left, and at the end.
 #![tactic(auto)]
 
-mod waiting; // waiting.rt: the buffer
-
 ghost use Rattle.std.specs.Prelude.{◌≡◌, true, ◌≤◌};
 ghost use Rattle.text_output.specs.Output.{Roomy, Flushed, Spelt, Put, PutThree};
 
-pub use waiting::Output;
-use waiting::SIZE;
+// The buffer's length.
+const SIZE: usize = 65536;
 
 // The most bytes that a number of 64 bits takes in decimal.
 const MOST_DIGITS: usize = 20;
 
 // A place up to which a number and a byte still fit behind it.
 const LAST_PLACE: usize = 65515;
+
+// The buffer, how many of its bytes wait, and whether every write so far was done whole.
+// Kept: the flag, since bytes are put and counted after a failure too.
+#[derive(Drop)]
+pub struct Output {
+    pub buffer: [u8; SIZE],
+    pub used: usize,
+    pub well: bool,
+}
 
 // Says on standard error that output is lost. Where that can't be written either, there is nowhere left to say it.
 fn say_unwritten<R: Eprint>(rt: &R) {
@@ -56,7 +63,9 @@ impl Output {
     pub fn flush<R: Print + Eprint>(&mut self, rt: &R)
         ensures { Flushed self.old self.new }
     {
-        let written = self.well && rt.write_all(&self.buffer[..self.used]).is_ok();
+        // Any value may be handed in: no more waits than the buffer holds.
+        let waits = self.used.min(SIZE);
+        let written = self.well && rt.write_all(&self.buffer[..waits]).is_ok();
         if self.well && !written {
             say_unwritten(rt);
         }

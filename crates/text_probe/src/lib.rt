@@ -65,18 +65,23 @@ fn fill_all(
     Some(())
 }
 
-// Does a case on buffers of its lengths, and puts what comes of it.
-// Kept: the buffers one by one, since a case takes a part of each, and a field's part, lent behind a reference, gets no generated proof.
-fn do_filled<R: Print + Eprint>(
+// Reads a line as a case, does it on the parts of the buffers that it takes, and puts what comes of it; None for a line that is no case.
+fn do_case<R: Print + Eprint>(
     rt: &R,
     text: &[u8],
-    at: usize,
-    head: cases::Head,
-    words: &mut [u32],
-    colours: &mut [u32],
-    bytes: &mut [u8],
+    heap: &mut Heap<WORDS, BLOCKS>,
     out: &mut Output,
 ) -> Option<()> {
+    let (head, at) = cases::read_head(text)?;
+    let Heap {
+        words,
+        colours,
+        bytes,
+        ..
+    } = heap;
+    let words = words.get_mut(..head.words)?;
+    let colours = colours.get_mut(..head.colours)?;
+    let bytes = bytes.get_mut(..head.bytes)?;
     fill_all(text, at, words, colours, bytes)?;
     let said = do_call(
         head.letter,
@@ -90,22 +95,6 @@ fn do_filled<R: Print + Eprint>(
     Some(())
 }
 
-// Reads a line as a case, does it on the parts of the buffers that it takes, and puts what comes of it; None for a line that is no case.
-fn do_case<R: Print + Eprint>(
-    rt: &R,
-    text: &[u8],
-    words: &mut [u32],
-    colours: &mut [u32],
-    bytes: &mut [u8],
-    out: &mut Output,
-) -> Option<()> {
-    let (head, at) = cases::read_head(text)?;
-    let words = words.get_mut(..head.words)?;
-    let colours = colours.get_mut(..head.colours)?;
-    let bytes = bytes.get_mut(..head.bytes)?;
-    do_filled(rt, text, at, head, words, colours, bytes, out)
-}
-
 // Does the line, where one is whole. A line that is no case says 99 0 0.
 fn do_line<R: Print + Eprint>(
     rt: &R,
@@ -116,14 +105,7 @@ fn do_line<R: Print + Eprint>(
     let Some(text) = line else {
         return;
     };
-    let done = do_case(
-        rt,
-        text,
-        &mut heap.words,
-        &mut heap.colours,
-        &mut heap.bytes,
-        out,
-    );
+    let done = do_case(rt, text, heap, out);
     if done.is_none() {
         out.put_three(rt, 99, 0, 0);
     }

@@ -9,7 +9,7 @@ use Rattle.machine.specs.declared.Regs.{Regs}
 use Rattle.machine.specs.Heap.{heap}
 use Rattle.text_commands.specs.Saying.{Spoken}
 use Rattle.text_lines.specs.Line.{line_gives}
-use Rattle.text_output.specs.declared.waiting.Output.{Output}
+use Rattle.text_output.specs.declared.Output.{Output}
 use Rattle.text_output.specs.Output.{PutThree}
 
 -- s is what the line gives

@@ -1,22 +1,21 @@
 -- Lines out of standard input, read into a buffer of 65,536 bytes.
 -- Document 01: "A line ends at byte 10, which isn't counted in it, or at the end of input; nothing after the last byte 10 is no line."
---     begun s              how many bytes are kept of the line that is gone on with
+--     begun s most         how many bytes are kept of the line that is gone on with, most being what its buffer holds
 --     ended                nothing is read any more, and no line is whole
 --     read_gives           where reading stands after a read that failed, or gave so many bytes
 --     WentOn               going on in what was read: a cut
 --     ReadOnce             a read, whatever came of it
 --     Reads                what waits is written out, and then there is a read; none where that write fails
 --     Next                 going on in what was read, or reading where nothing of it is left
--- A reader's state goes up to 65,536 at most, and no more bytes are kept than the line's buffer holds.
 -- Assumes nothing.
-use Rattle.std.specs.Prelude.{ℕ, ◌≤◌, ◌<◌, ◌≡◌, true, false, List, Option, Some, None, MatchOption, eqb, ltb, take, if◌then◌else◌}
-use Rattle.text_output.specs.declared.waiting.Output.{Output}
+use Rattle.std.specs.Prelude.{ℕ, ◌≤◌, ◌<◌, min, ◌≡◌, true, false, List, Option, Some, None, MatchOption, eqb, ltb, length, take, if◌then◌else◌}
+use Rattle.text_output.specs.declared.Output.{Output}
 use Rattle.text_output.specs.Output.{Flushed}
-use Rattle.text_streams.specs.declared.reader.Input.{Input}
+use Rattle.text_streams.specs.declared.input.Input.{Input}
 use Rattle.text_streams.specs.Streams.{CutOut}
 
-abbrev pub begun : Input → ℕ
-begun s = if s.ready then 0 else s.kept
+abbrev pub begun : Input → ℕ → ℕ
+begun s most = if s.ready then 0 else min s.kept most
 
 abbrev pub ended : Input
 ended = record { at = 0; upto = 0; kept = 0; ready = false; more = false }
@@ -49,6 +48,6 @@ pub record Reads (kept : ℕ) (o : Output) (buffer line : List ℕ) (r : Input) 
 
 pub record Next (s : Input) (o : Output) (buffer line : List ℕ) (r : Input) (p : Output) (buffer_after line_after : List ℕ) : Type 0 where
   pub on :
-      s.at < s.upto
-      → (p ≡ o) × (buffer_after ≡ buffer) × WentOn buffer s.at s.upto line (begun s) r line_after
-  pub read : s.upto ≤ s.at → Reads (begun s) o buffer line r p buffer_after line_after
+      s.at < min s.upto 65536
+      → (p ≡ o) × (buffer_after ≡ buffer) × WentOn buffer s.at (min s.upto 65536) line (begun s (length line)) r line_after
+  pub read : min s.upto 65536 ≤ s.at → Reads (begun s (length line)) o buffer line r p buffer_after line_after

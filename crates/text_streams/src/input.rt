@@ -1,11 +1,34 @@
 // Lines out of standard input, read into a buffer. The memory taken is constant, and of a line as many bytes are kept as its own buffer holds.
-ghost use Rattle.std.specs.Prelude.{◌≡◌, ◌&&◌, true, false, ◌≤◌, length, take, Some, MatchOption, IfOk, MatchResult};
+ghost use Rattle.std.specs.Prelude.{◌≡◌, ◌&&◌, true, false, ◌≤◌, min, length, take, Some, MatchOption, IfOk, MatchResult};
 ghost use Rattle.text_streams.specs.Input.{begun, ended, read_gives, WentOn, ReadOnce, Next};
 
 use super::cutting::cut_line;
-use super::reader::{Input, Reader, SIZE};
 use std::io::{BufRead, Read};
 use text_output::Output;
+
+// How many bytes are read at once, at most.
+const SIZE: usize = 65536;
+
+// Where reading stands: the place in the buffer to go on at, how many bytes of the buffer were read, how many bytes of a line are kept,
+// whether that line is whole, and whether more may come.
+// Kept: the two flags, since each of their four pairs occurs, and the bytes kept are counted in each.
+#[derive(Clone, Copy)]
+pub struct Input {
+    pub at: usize,
+    pub upto: usize,
+    pub kept: usize,
+    pub ready: bool,
+    pub more: bool,
+}
+
+// What was read last, the line that is read, of which N bytes are kept at most, and where reading stands. Any value may be handed in: where
+// it tells of more bytes than a buffer holds, the buffer's are meant.
+#[derive(Drop)]
+pub struct Reader<const N: usize> {
+    pub buffer: [u8; SIZE],
+    pub line: [u8; N],
+    pub state: Input,
+}
 
 // Nothing is read any more, and no line is whole.
 fn no_more() -> Input
@@ -28,8 +51,7 @@ fn say_unread<R: Eprint>(rt: &R) {
 // Where reading stands after a read that gave n bytes, 0 at the end of the input. At the end a line that has any byte is whole.
 #[tactic(auto, unfolding(crate::specs::Input::read_gives))]
 fn after_bytes(n: usize, kept: usize) -> Input
-    ensures gives { result ≡ read_gives (Some n) kept }
-    ensures fits { (result.upto ≡ n) × (result.kept ≡ kept) }
+    ensures { result ≡ read_gives (Some n) kept }
 {
     if n == 0 {
         return Input {
@@ -55,7 +77,6 @@ fn after_read<R: Eprint>(rt: &R, read: std::io::Result<usize>, kept: usize) -> I
     requires { IfOk read (λ n. n ≤ 65536) }
     ensures once { ReadOnce kept result }
     ensures gives { MatchResult read (λ n. result ≡ read_gives (Some n) kept) (λ e. result ≡ ended) }
-    ensures fits { (result.upto ≤ 65536) × (result.kept ≤ kept) }
 {
     match read {
         Ok(n) => after_bytes(n, kept),
@@ -91,7 +112,7 @@ impl<const N: usize> Reader<N> {
         if !self.state.ready {
             return None;
         }
-        Some(&self.line[..self.state.kept])
+        Some(&self.line[..self.state.kept.min(N)])
     }
 
     // Whether there is more to do: input may come, and no write has failed.
@@ -101,22 +122,34 @@ impl<const N: usize> Reader<N> {
         self.state.more && out.is_well()
     }
 
+    // How many bytes of the buffer were read.
+    fn upto(&self) -> usize
+        ensures { result ≡ min self.now.state.upto 65536 }
+    {
+        self.state.upto.min(SIZE)
+    }
+
     // How many bytes are kept of the line that is gone on with: none where the last one was whole.
     fn begun(&self) -> usize
-        ensures { result ≡ begun self.now.state }
+        ensures kept { result ≡ begun self.now.state (length self.now.line) }
+        ensures fits { result ≤ length self.now.line }
     {
-        if self.state.ready { 0 } else { self.state.kept }
+        if self.state.ready {
+            0
+        } else {
+            self.state.kept.min(N)
+        }
     }
 
     // Goes on in what was read, up to the end of the line or of that.
     fn go_on(&mut self)
-        requires { self.old.state.at ≤ self.old.state.upto }
-        ensures went { WentOn self.old.buffer self.old.state.at self.old.state.upto self.old.line (begun self.old.state) self.new.state self.new.line }
+        requires { self.old.state.at ≤ min self.old.state.upto 65536 }
+        ensures went { WentOn self.old.buffer self.old.state.at (min self.old.state.upto 65536) self.old.line (begun self.old.state (length self.old.line)) self.new.state self.new.line }
         ensures same { self.new.buffer ≡ self.old.buffer }
     {
         let kept = self.begun();
         let at = self.state.at;
-        let upto = self.state.upto;
+        let upto = self.upto();
         let c = cut_line(&self.buffer[..upto], at, &mut self.line, kept);
         self.state = Input {
             at: c.at,
@@ -129,7 +162,7 @@ impl<const N: usize> Reader<N> {
 
     // Reads once.
     fn read_once<R: std::io::Input + Eprint>(&mut self, rt: &R)
-        ensures once { ReadOnce (begun self.old.state) self.new.state }
+        ensures once { ReadOnce (begun self.old.state (length self.old.line)) self.new.state }
         ensures same { self.new.line ≡ self.old.line }
     {
         let kept = self.begun();
@@ -143,7 +176,7 @@ impl<const N: usize> Reader<N> {
     pub fn next<R: std::io::Input + Print + Eprint>(&mut self, rt: &R, out: &mut Output)
         ensures { Next self.old.state out.old self.old.buffer self.old.line self.new.state out.new self.new.buffer self.new.line }
     {
-        if self.state.at < self.state.upto {
+        if self.state.at < self.upto() {
             self.go_on();
             return;
         }

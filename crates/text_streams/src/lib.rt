@@ -3,11 +3,10 @@
 
 mod cutting; // cutting.rt: lines out of what was read
 mod input; // input.rt: reading
-mod reader; // reader.rt: the buffers, and where reading stands
 
 ghost use Rattle.std.specs.Prelude.{◌≡◌};
 
-pub use reader::{Input, Reader};
+pub use input::{Input, Reader};
 use text_output::Output;
 
 // Goes on until the input has come to its end or what is said can't be written: hands on each line, or None for a turn that ended none, and
