@@ -2,7 +2,7 @@
 ghost use Rattle.machine.specs.Heap.{heap};
 ghost use Rattle.machine.specs.Frame.{Sized};
 
-use machine::Regs;
+use machine::{Colour, Regs};
 use part_block::read::Blocks;
 
 // The registers, and buffers of the lengths that their M asks for.
@@ -22,8 +22,12 @@ impl<'a> Blocks for Lent<'a> {
         self.regs
     }
 
-    fn colour_word(&self, b: u32) -> u32 {
-        part_colours::word_of(self.colours, b)
+    fn colour(&self, b: u32) -> Colour {
+        part_colours::colour_at(self.regs.blocks, self.colours, b)
+    }
+
+    fn next_grey(&self, b: u32) -> u32 {
+        part_colours::next_grey(self.colours, b)
     }
 
     fn reference_byte(&self, b: u32) -> u8 {

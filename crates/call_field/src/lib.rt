@@ -11,6 +11,7 @@ ghost use Rattle.part_field.specs.Finds.{Finds};
 use machine::{Outcome, ReadAnswer, Refusal, Regs};
 
 // The block that has field k of the object that starts at the block b, or the first refusal of a call on it.
+#[inline(always)]
 fn find_field(
     r: Regs,
     words: &[u32],
@@ -27,6 +28,7 @@ fn find_field(
 }
 
 // The same for a store of a reference to t. Refusal 4 comes before the walk, and 8 and 6 for t after it.
+#[inline(always)]
 fn find_to_store(
     r: Regs,
     words: &[u32],

@@ -1,5 +1,6 @@
 -- Laws of Allocate, one for each way through the code.
 --     due_pace, due_share      the units due
+--     due_ceil                 the same at pace 0, by the library's `div_ceil` of the free count, 0 counted as 1
 --     list_none, list_uncounted, list_counted, list_bad, list_good     the tests of the free list
 --     new_black, new_white              the new block's colour
 --     taken_as, held_root, held_word    the taking and the storing
@@ -21,6 +22,7 @@ use Rattle.machine.specs.declared.Regs.{Regs}
 use Rattle.machine.specs.declared.Colour.{Colour}
 use Rattle.machine.specs.declared.Colour.TheVariants.{White, Black}
 use Rattle.machine.specs.Tests.{◌▷◌}
+use Rattle.machine.specs.Rounding.{rounded_up}
 use Rattle.machine.specs.Registers.{with_free, with_count, with_root, with_mark}
 use Rattle.machine.specs.Block.{base}
 use Rattle.machine.specs.Colouring.{painted}
@@ -44,10 +46,15 @@ module _ (r : Regs) where
   unfolding units_due
   due_pace n = simp (ne_eqb r.pace 0 n)
 
-  -- d, the free count, 0 counted as 1
-  pub due_share : r.pace ≡ 0 → (d : ℕ) → d ≡ max r.count 1 → 2 * (r.blocks / d + min 1 (r.blocks % d)) ≡ units_due r
+  pub due_share : r.pace ≡ 0 → r.count ≢ 0 → 2 * rounded_up r.blocks r.count ≡ units_due r
   unfolding units_due
-  due_share p d e =
+  due_share p n =
+      let e : max 1 r.count ≡ r.count = omega arith in
+      simp (eq-eqb r.pace 0 p) (rw e refl)
+
+  pub due_ceil : r.pace ≡ 0 → (d : ℕ) → d ≡ max r.count 1 → 2 * (r.blocks / d + min 1 (r.blocks % d)) ≡ units_due r
+  unfolding units_due
+  due_ceil p d e =
       let a : max 1 r.count ≡ d = omega arith in
       simp (eq-eqb r.pace 0 p) (rw (a, ceil_rounds r.blocks d (omega arith)) refl)
 

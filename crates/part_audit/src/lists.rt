@@ -58,12 +58,12 @@ pub fn greys_pass<B: Blocks>(blocks: &B) -> bool
     ensures { result ≡ greys_pass (colouring (B.held blocks.now)) }
 {
     let n = count(blocks, Colour::Grey);
-    let head = blocks.registers().grey;
+    let head = part_colours::first_grey(blocks.registers().grey);
     let next = |b: u32| -> u32
         requires { Block (B.held blocks.now).regs.blocks b }
         ensures { result ≡ word_in (colouring (B.held blocks.entry.now)) b }
-    { blocks.colour_word(b) };
-    walk(blocks, Colour::Grey, n, head, next, machine::NO_GREY)
+    { blocks.next_grey(b) };
+    walk(blocks, Colour::Grey, n, head, next, part_colours::GREY_END)
 }
 
 // Whether the free list has exactly the free blocks, and free count of them.

@@ -4,14 +4,14 @@
 
 pub mod read; // read.rt: the trait that reads of a block
 
-ghost use Rattle.std.specs.Prelude.{◌≡◌, Bool, false, ◌&&◌, List, ℕ};
+ghost use Rattle.std.specs.Prelude.{◌≡◌, Bool, false, ◌&&◌, List, ℕ, eqb};
 ghost use Rattle.machine.specs.declared.Regs.{Regs};
 ghost use Rattle.machine.specs.declared.State.TheVariants.{Grey, Black, Free};
 ghost use Rattle.machine.specs.WellFormed.{Block};
 ghost use Rattle.machine.specs.Block.{byte_of, eight_words, references};
 ghost use Rattle.machine.specs.Colouring.{Colouring, is_free};
 ghost use Rattle.machine.specs.Heap.{colouring, colour_of, references_of};
-ghost use Rattle.machine.specs.State.{state_of};
+ghost use Rattle.machine.specs.State.{state_in, state_of};
 ghost use Rattle.machine.specs.Audit.{may_be_named, may_name_all, zero_from, state_passes, mark_passes, block_passes};
 ghost use Rattle.part_block.specs.Asked.{answered};
 
@@ -33,7 +33,7 @@ pub fn colour_of<B: Blocks>(blocks: &B, b: u32) -> Colour
 {
     let m = blocks.registers().blocks;
     if part_colours::is_block(m, b) {
-        return part_colours::colour(m, blocks.colour_word(b));
+        return blocks.colour(b);
     }
     Colour::Outside
 }
@@ -72,18 +72,7 @@ fn zeroes<B: Blocks>(blocks: &B, b: u32) -> bool
     (blocks.word(b, 4) | blocks.word(b, 5) | blocks.word(b, 6) | blocks.word(b, 7)) == 0
 }
 
-// What is left to ask of a free block: its byte and its words 1 to 7 are 0, or it fails.
-fn ask_free<B: Blocks>(blocks: &B, b: u32) -> Asked
-    requires { Block (B.held blocks.now).regs.blocks b }
-    ensures { (r : Regs) (k : Colouring) → answered result (λ strict. may_name_all r k strict (references_of (B.held blocks.now) b)) ≡ state_passes r k (eight_words (B.held blocks.now).words b) (byte_of (B.held blocks.now).bytes b) b Free }
-{
-    if blocks.reference_byte(b) == 0 && zeroes(blocks, b) {
-        return Asked::Passes;
-    }
-    Asked::Fails
-}
-
-// Of a grey block: it is marking.
+// What is left to ask of a grey block: it is marking.
 fn ask_grey(phase: u32) -> Asked
     ensures { (r : Regs) (k : Colouring) (part : List ℕ) (byte b : ℕ) → r.phase ≡ phase → answered result (λ strict. may_name_all r k strict (references part byte)) ≡ state_passes r k part byte b Grey }
 {
@@ -116,18 +105,44 @@ fn ask_used(mark: u32, b: u32, asked: Asked) -> Asked
     asked
 }
 
-// Of the block b.
+// Of a block b in the state s, whatever its words and its byte are, and wherever they lie: empty tells whether the byte and words 1 to 7
+// are 0, and is asked where the block is free.
+pub fn ask_in<E: Fn() -> bool>(
+    phase: u32,
+    position: u32,
+    mark: u32,
+    b: u32,
+    s: State,
+    empty: E,
+) -> Asked
+    requires { s ≡ Free → E.pre empty }
+    ensures { (r : Regs) (k : Colouring) (part : List ℕ) (byte : ℕ) → r.phase ≡ phase → r.position ≡ position → r.mark ≡ mark → s ≡ state_in r k b
+        → ((t : Bool) → E.post empty t → t ≡ (eqb byte 0 && zero_from 7 1 part))
+        → answered result (λ strict. may_name_all r k strict (references part byte)) ≡ (mark_passes r k b && state_passes r k part byte b s) }
+{
+    match s {
+        State::LiveWhite => ask_used(mark, b, Asked::Names),
+        State::Doomed => ask_used(mark, b, Asked::Passes),
+        State::Grey => ask_used(mark, b, ask_grey(phase)),
+        State::Black => ask_used(mark, b, ask_black(phase, position, b)),
+        State::Free => {
+            if empty() {
+                return Asked::Passes;
+            }
+            Asked::Fails
+        }
+        State::Outside => Asked::Fails,
+    }
+}
+
+// Of b, which is any number: a number that is no block fails.
 pub fn ask<B: Blocks>(blocks: &B, b: u32) -> Asked
-    requires { Block (B.held blocks.now).regs.blocks b }
     ensures { answered result (λ strict. may_name_all (B.held blocks.now).regs (colouring (B.held blocks.now)) strict (references_of (B.held blocks.now) b)) ≡ block_passes (B.held blocks.now) b }
 {
     let r = blocks.registers();
-    match state_of(blocks, b) {
-        State::LiveWhite => ask_used(r.mark, b, Asked::Names),
-        State::Doomed => ask_used(r.mark, b, Asked::Passes),
-        State::Grey => ask_used(r.mark, b, ask_grey(r.phase)),
-        State::Black => ask_used(r.mark, b, ask_black(r.phase, r.position, b)),
-        State::Free => ask_free(blocks, b),
-        State::Outside => Asked::Fails,
-    }
+    let empty = || -> bool
+        requires { Block (B.held blocks.now).regs.blocks b }
+        ensures { result ≡ (eqb (byte_of (B.held blocks.entry.now).bytes b) 0 && zero_from 7 1 (eight_words (B.held blocks.entry.now).words b)) }
+    { blocks.reference_byte(b) == 0 && zeroes(blocks, b) };
+    ask_in(r.phase, r.position, r.mark, b, state_of(blocks, b), empty)
 }

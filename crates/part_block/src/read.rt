@@ -3,10 +3,10 @@
 ghost use Rattle.std.specs.Prelude.{◌≡◌, ◌≤◌};
 ghost use Rattle.machine.specs.WellFormed.{Block};
 ghost use Rattle.machine.specs.Block.{word_of, byte_of};
-ghost use Rattle.machine.specs.Colouring.{colour_word};
-ghost use Rattle.machine.specs.Heap.{Heap};
+ghost use Rattle.machine.specs.Colouring.{word_in};
+ghost use Rattle.machine.specs.Heap.{Heap, colouring, colour_of};
 
-use machine::Regs;
+use machine::{Colour, Regs};
 
 pub trait Blocks {
     // The heap whose blocks they are.
@@ -17,10 +17,15 @@ pub trait Blocks {
         ensures told { result ≡ (held self.now).regs }
         ensures most { result.blocks ≤ 16384 };
 
-    // The colour word of the block b.
-    fn colour_word(&self, b: u32) -> u32
+    // The colour of the block b.
+    fn colour(&self, b: u32) -> Colour
         requires { Block (held self.now).regs.blocks b }
-        ensures { result ≡ colour_word (held self.now).colours b };
+        ensures { result ≡ colour_of (held self.now) b };
+
+    // The block behind the block b in the grey list, or the list's end.
+    fn next_grey(&self, b: u32) -> u32
+        requires { Block (held self.now).regs.blocks b }
+        ensures { result ≡ word_in (colouring (held self.now)) b };
 
     // Its reference byte.
     fn reference_byte(&self, b: u32) -> u8

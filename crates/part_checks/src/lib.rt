@@ -102,6 +102,7 @@ pub fn legal(r: Regs) -> bool
 }
 
 // Refusals 1 and 2.
+#[inline(always)]
 pub fn entry(r: Regs, words: &[u32], colours: &[u32], bytes: &[u8]) -> Result<(), Refusal>
     ensures { refused_by result ≡ entry (heap r words.now colours.now bytes.now) }
 {
@@ -207,6 +208,7 @@ pub fn holder_after(r: Regs, colours: &[u32], b: u32) -> Result<(), Refusal>
 }
 
 // Refusals 8 and 6 for the target, which is 0 or a block.
+#[inline(always)]
 pub fn target_refusal(
     m: u32,
     phase: u32,
@@ -253,6 +255,7 @@ pub fn read_refusal_after(
 }
 
 // Every refusal of Read: 1, 2, 3, then 8 and 5.
+#[inline(always)]
 pub fn read_refusal(
     r: Regs,
     words: &[u32],

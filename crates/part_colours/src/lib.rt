@@ -2,13 +2,16 @@
 // this crate reads or writes a colour word; part_step::step is told one and knows its values.
 #![tactic(auto)]
 
-ghost use Rattle.std.specs.Prelude.{◌≡◌, ◌≢◌, ◌+◌, ◌%◌, ◌≤◌, length, ℕ, if◌then◌else◌};
+ghost use Rattle.std.specs.Prelude.{◌≡◌, ◌≢◌, ◌+◌, ◌%◌, ◌≤◌, length, List, ℕ, if◌then◌else◌};
 ghost use Rattle.machine.specs.WellFormed.{Block};
 ghost use Rattle.machine.specs.Block.{is_block};
-ghost use Rattle.machine.specs.Colouring.{coloured, colour, colour_word, paint, colour_in, repaint, to_grey, to_black, grey_white, free_colour, is_free, CellsFit, fresh_colours};
+ghost use Rattle.machine.specs.Colouring.{coloured, colour, colour_word, word_in, first_grey, paint, colour_in, repaint, to_grey, to_black, grey_white, free_colour, is_free, CellsFit, fresh_colours};
 ghost use Rattle.machine.specs.Seen.{seen};
 
 use machine::{Colour, Seen};
+
+// The end of the grey list: what stands behind its last block, and for its first one where it is empty.
+pub const GREY_END: u32 = machine::NO_GREY;
 
 // Whether b is a block number in a heap of m blocks.
 pub fn is_block(m: u32, b: u32) -> bool
@@ -43,6 +46,21 @@ pub fn word_of(colours: &[u32], b: u32) -> u32
     ensures { result ≡ colour_word colours.now b }
 {
     colours[b as usize - 2]
+}
+
+// The first block of the grey list with this head, or the list's end.
+pub fn first_grey(grey_head: u32) -> u32
+    ensures { (m : ℕ) (cs : List ℕ) → result ≡ first_grey (coloured m grey_head cs) }
+{
+    grey_head
+}
+
+// The block behind the block b in the grey list, or the list's end.
+pub fn next_grey(colours: &[u32], b: u32) -> u32
+    requires { Block (length colours.now) b }
+    ensures { (m g : ℕ) → result ≡ word_in (coloured m g colours.now) b }
+{
+    word_of(colours, b)
 }
 
 // The colour of the block b.

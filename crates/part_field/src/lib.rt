@@ -109,6 +109,7 @@ pub fn walk_refusal(
 }
 
 // The block that so many links lead to from the block b on, or the first refusal on the way.
+#[inline(always)]
 pub fn find(
     r: Regs,
     words: &[u32],

@@ -15,7 +15,7 @@ const LAST_PLACE: usize = 65515;
 
 // The buffer, how many of its bytes wait, and whether every write so far was done whole.
 // Kept: the flag, since bytes are put and counted after a failure too.
-#[derive(Drop)]
+#[derive(Clone, Copy)]
 pub struct Output {
     pub buffer: [u8; SIZE],
     pub used: usize,

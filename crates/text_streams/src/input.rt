@@ -87,6 +87,79 @@ fn after_read<R: Eprint>(rt: &R, read: std::io::Result<usize>, kept: usize) -> I
     }
 }
 
+// How many bytes are kept of the line that is gone on with, most being what its buffer holds: none where the last one was whole.
+fn begun(s: Input, most: usize) -> usize
+    ensures kept { result ≡ begun s most }
+    ensures fits { result ≤ most }
+{
+    if s.ready { 0 } else { s.kept.min(most) }
+}
+
+// Goes on in the first n bytes of the buffer, from a place of theirs up to the end of the line or of those bytes.
+fn go_on(buffer: &[u8], at: usize, n: usize, line: &mut [u8], kept: usize) -> Input
+    requires { (at ≤ n) × (n ≤ length buffer.now) × (kept ≤ length line.old) }
+    ensures { WentOn buffer.now at n line.old kept result line.new }
+{
+    let c = cut_line(&buffer[..n], at, line, kept);
+    Input {
+        at: c.at,
+        upto: n,
+        kept: c.length,
+        ready: c.ended,
+        more: true,
+    }
+}
+
+// Reads once.
+fn read_once<R: std::io::Input + Eprint>(rt: &R, buffer: &mut [u8; SIZE], kept: usize) -> Input
+    ensures { ReadOnce kept result }
+{
+    let mut reader = rt.reader();
+    let read = reader.read(buffer);
+    after_read(rt, read, kept)
+}
+
+// Nothing is read yet.
+pub fn start() -> Input
+    ensures { result ≡ (record { at = 0; upto = 0; kept = 0; ready = false; more = true }) }
+{
+    Input {
+        more: true,
+        ..no_more()
+    }
+}
+
+// Whether there is more to do: input may come, and no write has failed.
+pub fn goes_on(s: Input, out: &Output) -> bool
+    ensures { result ≡ (s.more && out.now.well) }
+{
+    s.more && out.is_well()
+}
+
+// Goes on to the end of a line, or of what was read, with a line's buffer of any length. Where nothing of what was read is left, writes out
+// what waits, since a read may wait long, and then reads once. Where that write fails, nothing is read any more.
+pub fn next<R: std::io::Input + Print + Eprint>(
+    rt: &R,
+    s: Input,
+    buffer: &mut [u8; SIZE],
+    line: &mut [u8],
+    out: &mut Output,
+) -> Input
+    ensures { Next s out.old buffer.old line.old result out.new buffer.new line.new }
+{
+    let kept = begun(s, line.len());
+    let upto = s.upto.min(SIZE);
+    if s.at < upto {
+        return go_on(buffer, s.at, upto, line, kept);
+    }
+    out.flush(rt);
+    if out.is_well() {
+        read_once(rt, buffer, kept)
+    } else {
+        no_more()
+    }
+}
+
 impl<const N: usize> Reader<N> {
     // Nothing is read yet.
     pub fn new() -> Self
@@ -95,13 +168,7 @@ impl<const N: usize> Reader<N> {
         Reader {
             buffer: [0; SIZE],
             line: [0; N],
-            state: Input {
-                at: 0,
-                upto: 0,
-                kept: 0,
-                ready: false,
-                more: true,
-            },
+            state: start(),
         }
     }
 
@@ -119,56 +186,7 @@ impl<const N: usize> Reader<N> {
     pub fn goes_on(&self, out: &Output) -> bool
         ensures { result ≡ (self.now.state.more && out.now.well) }
     {
-        self.state.more && out.is_well()
-    }
-
-    // How many bytes of the buffer were read.
-    fn upto(&self) -> usize
-        ensures { result ≡ min self.now.state.upto 65536 }
-    {
-        self.state.upto.min(SIZE)
-    }
-
-    // How many bytes are kept of the line that is gone on with: none where the last one was whole.
-    fn begun(&self) -> usize
-        ensures kept { result ≡ begun self.now.state (length self.now.line) }
-        ensures fits { result ≤ length self.now.line }
-    {
-        if self.state.ready {
-            0
-        } else {
-            self.state.kept.min(N)
-        }
-    }
-
-    // Goes on in what was read, up to the end of the line or of that.
-    fn go_on(&mut self)
-        requires { self.old.state.at ≤ min self.old.state.upto 65536 }
-        ensures went { WentOn self.old.buffer self.old.state.at (min self.old.state.upto 65536) self.old.line (begun self.old.state (length self.old.line)) self.new.state self.new.line }
-        ensures same { self.new.buffer ≡ self.old.buffer }
-    {
-        let kept = self.begun();
-        let at = self.state.at;
-        let upto = self.upto();
-        let c = cut_line(&self.buffer[..upto], at, &mut self.line, kept);
-        self.state = Input {
-            at: c.at,
-            upto,
-            kept: c.length,
-            ready: c.ended,
-            more: true,
-        };
-    }
-
-    // Reads once.
-    fn read_once<R: std::io::Input + Eprint>(&mut self, rt: &R)
-        ensures once { ReadOnce (begun self.old.state (length self.old.line)) self.new.state }
-        ensures same { self.new.line ≡ self.old.line }
-    {
-        let kept = self.begun();
-        let mut reader = rt.reader();
-        let read = reader.read(&mut self.buffer);
-        self.state = after_read(rt, read, kept);
+        goes_on(self.state, out)
     }
 
     // Goes on to the end of a line, or of what was read. Where nothing of that is left, writes out what waits, since a read may wait long,
@@ -176,15 +194,6 @@ impl<const N: usize> Reader<N> {
     pub fn next<R: std::io::Input + Print + Eprint>(&mut self, rt: &R, out: &mut Output)
         ensures { Next self.old.state out.old self.old.buffer self.old.line self.new.state out.new self.new.buffer self.new.line }
     {
-        if self.state.at < self.upto() {
-            self.go_on();
-            return;
-        }
-        out.flush(rt);
-        if out.is_well() {
-            self.read_once(rt);
-        } else {
-            self.state = no_more();
-        }
+        self.state = next(rt, self.state, &mut self.buffer, &mut self.line, out);
     }
 }

@@ -6,7 +6,7 @@ mod input; // input.rt: reading
 
 ghost use Rattle.std.specs.Prelude.{◌≡◌};
 
-pub use input::{Input, Reader};
+pub use input::{Input, Reader, goes_on, next, start};
 use text_output::Output;
 
 // Goes on until the input has come to its end or what is said can't be written: hands on each line, or None for a turn that ended none, and

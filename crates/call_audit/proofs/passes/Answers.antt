@@ -1,5 +1,5 @@
 -- `call_audit::passes` meets its contract. Assumes nothing.
-use mathlib.Core.Path.{sym, ◌∙◌}
+use mathlib.Core.Path.{◌∙◌}
 use Rattle.machine.proofs.Entering.{entry_ready}
 use Rattle.machine.proofs.Passing.{entry_no}
 use Rattle.machine.proofs.Refusals.{refuses, refused_so, unrefused}

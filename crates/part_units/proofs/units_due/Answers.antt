@@ -1,7 +1,7 @@
 -- `part_units::units_due` meets its contract. Assumes nothing.
 use Rattle.std.proofs.Common.{ℕ, ap, ◌*◌, ◌∙◌, arith}
 use Rattle.machine.proofs.Rounding.{round_most, ceil_rounds}
-use Rattle.machine.proofs.Allocating.{due_pace, due_share}
+use Rattle.machine.proofs.Allocating.{due_pace, due_ceil}
 use Rattle.part_units.proofs.units_due.Goals as goal
 
 pub returns-then-r-ne0 : goal.returns-then-r-ne0
@@ -14,4 +14,4 @@ overflow_mul-result c =
     omega (arith, ceil_rounds c.args.r.blocks c.max.result (omega arith), round_most c.args.r.blocks c.max.result (omega arith))
 
 pub returns : goal.returns
-returns c = ap (λ (x : ℕ). 2 * x) c.div_ceil.ensures ∙ due_share _ c.if-r-ne0.false _ c.max.ensures
+returns c = ap (λ (x : ℕ). 2 * x) c.div_ceil.ensures ∙ due_ceil _ c.if-r-ne0.false _ c.max.ensures

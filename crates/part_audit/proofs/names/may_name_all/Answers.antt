@@ -1,42 +1,11 @@
--- `part_audit::names::may_name_all` meets its contract: the words passed may hold what they hold, and the test of the others is still to come. Assumes nothing.
-use mathlib.Core.Path.{refl, sym, ◌∙◌}
+-- `part_audit::names::may_name_all` meets its contract: the words asked for are the block's. Assumes nothing.
+use mathlib.Core.Path.{refl, ◌∙◌}
 use native.Mathlib.Omega.{arith}
 use Rattle.machine.specs.Block.{eight_words}
-use Rattle.machine.specs.Heap.{colouring}
-use Rattle.machine.proofs.Tests.{so}
-use Rattle.machine.proofs.LowestBit.{lowest_within, lowest_sub, lowest_less}
-use Rattle.machine.proofs.References.{names_on, names_off, names_end}
 use Rattle.part_block.proofs.Asking.{word_read}
 use Rattle.part_audit.proofs.names.may_name_all.Goals as goal
-
-pub word-requires : goal.word-requires
-word-requires g c =
-    let l = lowest_within _ _ c.loop-rest.invariant.0 c.loop-rest-test.true refl in
-    (omega arith, c.requires)
-
-pub overflow_sub-rest : goal.overflow_sub-rest
-overflow_sub-rest g c = lowest_sub _ _ c.loop-rest.invariant.0 c.loop-rest-test.true refl
-
-pub loop-rest-preserved : goal.loop-rest-preserved
-loop-rest-preserved g c =
-    let h = g.B.Blocks.held c.args.blocks.now in
-    let (f, i) = c.loop-rest.invariant in
-    let n = c.loop-rest-test.true in
-    let l = lowest_less _ _ f n refl in
-    let w = word_read h.words c.args.b _ (lowest_within _ _ f n refl) c.word.ensures in
-    let p = rw w at (so c.may_name.ensures c.if-not-may_name.false) in
-    (omega arith, i ∙ names_on h.regs (colouring h) c.args.strict (eight_words h.words c.args.b) _ _ f n refl p)
-
-pub returns-then-not-may_name : goal.returns-then-not-may_name
-returns-then-not-may_name g c =
-    let h = g.B.Blocks.held c.args.blocks.now in
-    let (f, i) = c.loop-rest.invariant in
-    let n = c.loop-rest-test.true in
-    let w = word_read h.words c.args.b _ (lowest_within _ _ f n refl) c.word.ensures in
-    let p = rw w at (so c.may_name.ensures c.if-not-may_name.true) in
-    sym (i ∙ names_off h.regs (colouring h) c.args.strict (eight_words h.words c.args.b) _ _ f n refl p)
 
 pub returns : goal.returns
 returns g c =
     let h = g.B.Blocks.held c.args.blocks.now in
-    sym (c.loop-rest.invariant.1 ∙ names_end h.regs (colouring h) c.args.strict (eight_words h.words c.args.b) _ c.loop-rest-test.false)
+    c.may_name_each.ensures (eight_words h.words c.args.b) (λ w x l e. word_read h.words c.args.b w (omega arith) e) ∙ rw c.reference_byte.ensures refl

@@ -1,7 +1,7 @@
 -- `part_image_audit::sections::Sections::colour_word` meets its contract. Assumes nothing.
 use native.Mathlib.Omega.{arith}
 use Rattle.part_image_audit.proofs.Laid.{laid_length, colour_laid}
-use Rattle.part_image_audit.proofs.sections.SectionsBlocks.colour_word.Goals as goal
+use Rattle.part_image_audit.proofs.sections.Sections.colour_word.Goals as goal
 
 pub number_at-requires : goal.number_at-requires
 number_at-requires c =
